@@ -1,0 +1,1 @@
+// What a loop computes: definitions and laws alone, for every crate above.

@@ -1,0 +1,5 @@
+// Domain words: the possible patterns of a cell are the set bits of its word.
+// Follows docs/RULES.md, "Domains". Main property: count of ones is how many patterns are in a word, trailing zeros its least one.
+// Only this crate shifts a word or counts its ones: a wider domain is paid for here.
+
+pub mod inner;
