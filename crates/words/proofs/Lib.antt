@@ -1,0 +1,4 @@
+pub mod BitLaws
+pub mod ChangeLaws
+pub mod CountLaws
+pub mod LeastLaws

@@ -1,0 +1,5 @@
+pub mod Tables
+pub mod Weights
+pub mod Checks
+pub mod Lookup
+pub mod Accepted

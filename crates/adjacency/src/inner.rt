@@ -1,0 +1,1 @@
+// The checks of a table one by one, its lists without checks, and weights, for the crates above.

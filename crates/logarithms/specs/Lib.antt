@@ -1,0 +1,5 @@
+pub mod Logs
+pub mod Floor
+pub mod Entropy
+pub mod Notes
+pub mod Asked
