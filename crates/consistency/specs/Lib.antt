@@ -1,0 +1,5 @@
+pub mod Domains
+pub mod Consistent
+pub mod Worklist
+pub mod Start
+pub mod Safe
