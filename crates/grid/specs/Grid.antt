@@ -1,21 +1,23 @@
 -- The grid: width, height and wrap mode (0 none, 1 x, 2 y, 3 both); cell = y times width + x. Follows docs/RULES.md, "Grid".
 -- Assumes nothing.
-use mathlib.Core.Bool.{Bool, true, false, cond, _||_}
-use mathlib.Core.List.{List, [], _∷_}
+use mathlib.Core.Bool.{Bool, cond, _||_}
 use mathlib.Core.Option.{Option, none, some}
 use Prim.Native.Nat.{ℕ, zero, suc, _+_, _-_, _*_, _/_, _%_, _≤_}
 use lib.Dec.{leb, ltb, eqb}
 use lib.IntN.{ℤ, pos, negsuc}
 use Rattle.directions.specs.Directions.{stepX, stepY}
 
+-- a grid as it is lent, accepted or not
 pub record Grid : Type 0 where
   pub width : ℕ
   pub height : ℕ
   pub mode : ℕ
 
+-- the grid of a width, a height and a mode
 abbrev pub grid : ℕ → ℕ → ℕ → Grid
 grid width height mode = record { width = width; height = height; mode = mode }
 
+-- how many cells it has
 abbrev pub cells : Grid → ℕ
 cells g = g .height * g .width
 
@@ -28,13 +30,20 @@ wrapsY g = leb 2 (g .mode)
 
 -- ---- neighbours
 
--- one step on along a side of n places, round to its start where it wraps
-unfoldable pub after : Bool → ℕ → ℕ → Option ℕ
-after wraps n i = cond (ltb (i + 1) n) (some (i + 1)) (cond wraps (some 0) none)
+-- past an edge: the place at the other end where the side wraps, none where it does not
+unfoldable pub round : Bool → ℕ → Option ℕ
+round wraps i = cond wraps (some i) none
 
--- one step back along a side of n places, round to its end where it wraps
+-- one step on along a side of n places
+unfoldable pub after : Bool → ℕ → ℕ → Option ℕ
+unfolding round
+after wraps n i = cond (ltb (suc i) n) (some (suc i)) (round wraps 0)
+
+-- one step back along a side of n places
 unfoldable pub before : Bool → ℕ → ℕ → Option ℕ
-before wraps n i = cond (eqb i 0) (cond wraps (some (n - 1)) none) (some (i - 1))
+unfolding round
+before wraps n zero = round wraps (n - 1)
+before wraps n (suc i) = some i
 
 -- the place that a step of -1, 0 or 1 leads to, none past an edge
 unfoldable pub along : Bool → ℕ → ℕ → ℤ → Option ℕ
@@ -42,6 +51,15 @@ unfolding after before
 along wraps n i (pos zero) = some i
 along wraps n i (pos (suc k)) = after wraps n i
 along wraps n i (negsuc k) = before wraps n i
+
+-- the column and the row of the cell in direction d of c, none past an edge
+unfoldable pub column : Grid → ℕ → ℕ → Option ℕ
+unfolding along wrapsX stepX
+column g c d = along (wrapsX g) (g .width) (c % g .width) (stepX d)
+
+unfoldable pub row : Grid → ℕ → ℕ → Option ℕ
+unfolding along wrapsY stepY
+row g c d = along (wrapsY g) (g .height) (c / g .width) (stepY d)
 
 -- the cell at a column and a row, none past an edge
 abbrev pub at : ℕ → Option ℕ → Option ℕ → Option ℕ
@@ -51,19 +69,23 @@ at width none y = none
 
 -- the cell in direction d of c, or none at an edge that does not wrap
 unfoldable pub neighbour : Grid → ℕ → ℕ → Option ℕ
-unfolding along wrapsX wrapsY stepX stepY
-neighbour g c d =
-    at (g .width) (along (wrapsX g) (g .width) (c % g .width) (stepX d)) (along (wrapsY g) (g .height) (c / g .width) (stepY d))
+unfolding column row
+neighbour g c d = at (g .width) (column g c d) (row g c d)
 
 -- ---- refusals
 
--- a side is 0 or over 64, or there are over 1,024 cells
-unfoldable pub badSize : Grid → Bool
-badSize g = eqb (g .width) 0 || ltb 64 (g .width) || eqb (g .height) 0 || ltb 64 (g .height) || ltb 1024 (cells g)
+-- a side is 0 or over 64
+unfoldable pub badSide : ℕ → Bool
+badSide n = eqb n 0 || ltb 64 n
+
+-- a side is bad, or there are over 1,024 cells
+unfoldable pub badSize : ℕ → ℕ → Bool
+unfolding badSide
+badSize width height = badSide width || badSide height || ltb 1024 (height * width)
 
 -- the mode is over 3
-unfoldable pub badWrap : Grid → Bool
-badWrap g = ltb 3 (g .mode)
+unfoldable pub badWrap : ℕ → Bool
+badWrap mode = ltb 3 mode
 
 -- the cell is not in the grid
 unfoldable pub badCell : Grid → ℕ → Bool
@@ -76,4 +98,4 @@ pub record Sized (g : Grid) : Type 0 where
   pub tall : 1 ≤ g .height
   pub low : g .height ≤ 64
   pub few : cells g ≤ 1024
-  pub mode : g .mode ≤ 3
+  pub known : g .mode ≤ 3

@@ -20,7 +20,7 @@ pub enum NearAnswer {
     Refused(Refusal),
 }
 
-// The neighbour of a cell in a direction.
+// The neighbour of a cell in a direction; refused are, in this order, the size, the mode, the direction and the cell.
 pub fn neighbour(
     width: usize,
     height: usize,

@@ -1,0 +1,3 @@
+pub mod GridLaws
+pub mod Unique
+pub mod Cases
