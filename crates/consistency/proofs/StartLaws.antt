@@ -74,7 +74,7 @@ module _ (t : Table) (g : Grid) (A : Accepted t) {X : Type 0} where
         counted =
             record {
               exact = λ n q d hn hq hd a. omega (arith, start-count t (cells g) n q d hn hq hd, supports-filled t g A n q d hn hq hd);
-              live = λ n q d hn hq hd a. omega (arith, start-count t (cells g) n q d hn hq hd, A .filled q (opposite d) hq (opposite-below d hd));
+              live = λ n q d hn hq hd a. omega (arith, start-count t (cells g) n q d hn hq hd, A .listed .filled q (opposite d) hq (opposite-below d hd));
             };
       }
     where
