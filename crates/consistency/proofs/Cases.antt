@@ -5,6 +5,9 @@ use mathlib.Core.Bool.{Bool, true, false}
 use mathlib.Core.List.{List, [], _∷_}
 use Prim.Native.Nat.{ℕ}
 use Rattle.adjacency.specs.Tables.{Table, table}
+use Rattle.adjacency.specs.Checks.{badCount, badOffsets, badList, disagree}
+use Rattle.adjacency.specs.Accepted.{Accepted}
+use Rattle.adjacency.proofs.AcceptedLaws.{accepted-by}
 use Rattle.grid.specs.Grid.{Grid, grid}
 use Rattle.consistency.specs.Domains.{settledAs}
 use Rattle.consistency.specs.Worklist.{Removal, removal, State}
@@ -12,6 +15,10 @@ use Rattle.consistency.specs.Start.{others, reduced}
 
 abbrev pub checker : Table
 checker = table 2 (0 ∷ 1 ∷ 2 ∷ 3 ∷ 4 ∷ 5 ∷ 6 ∷ 7 ∷ 8 ∷ []) (1 ∷ 1 ∷ 1 ∷ 1 ∷ 0 ∷ 0 ∷ 0 ∷ 0 ∷ [])
+
+pub checker-accepted : Accepted checker
+unfolding badCount badOffsets badList disagree
+checker-accepted = accepted-by checker refl refl refl refl
 
 -- a grid, the removals asked for, the domains that are written and whether they are contradicted
 pub record Case : Type 0 where

@@ -1,4 +1,3 @@
-pub mod Times
 pub mod DomainLaws
 pub mod Counting
 pub mod Owed
