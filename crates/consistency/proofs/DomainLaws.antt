@@ -1,20 +1,20 @@
 -- Laws of domains: a pattern that is removed, all patterns, subsets, and when a cell is empty. Follows docs/RULES.md, "Domains".
 -- Assumes nothing.
-use mathlib.Core.Path.{_≡_, refl, sym, ap, _∙_}
-use mathlib.Core.Bool.{Bool, true, false, cond, _||_, or-assoc, or-comm, false≢true}
+use mathlib.Core.Bool.{Bool, true, false, _||_, or-assoc, or-comm, false≢true}
 use mathlib.Core.List.{List, [], _∷_}
-use Prim.Native.Nat.{ℕ, zero, suc, _+_, _-_, _*_, _^_, _≤_, _<_}
+use mathlib.Core.Path.{_≡_, refl, sym, ap, _∙_}
+use Prim.Native.Nat.{ℕ, zero, suc, _≤_, _<_}
 use native.Mathlib.Decide.{ℕ-discrete, decLt}
 use native.Mathlib.Omega.{arith}
 use lib.Dec.{eqb}
-use lib.ListN.{length, getD, set, replicate, length-set, length-replicate, getD-replicate, List·getD-eq-default}
+use lib.ListN.{length, getD, replicate, length-set, length-replicate, getD-replicate, List·getD-eq-default}
 use lib.Pow.{pow-pos, pow-mono}
 use lib.Seq.{getD-set-other, ext-getD}
-use borrow.Author.Tests.{eq-eqb, ne-eqb, eqb-true}
+use borrow.Author.Tests.{eq-eqb, ne-eqb}
 use Rattle.words.specs.Words.{bit, without, full}
+use Rattle.consistency.specs.Domains.{possible, removed, filled, Fit, Sub, emptied, settledAs}
 use Rattle.words.proofs.BitLaws.{bit-lt, bit-le, bit-not, bit-none, bit-below, bit-full, full-lt, word-ext}
 use Rattle.words.proofs.ChangeLaws.{bit-without, bit-without-other, without-le}
-use Rattle.consistency.specs.Domains.{possible, removed, filled, Fit, Sub, emptied, settledAs}
 
 -- ---- a pattern is removed
 

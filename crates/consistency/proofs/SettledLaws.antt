@@ -1,10 +1,10 @@
 -- What a settled propagation says: which subset is left, that there is one outcome only, and that less never leaves more. A contradiction counts
 -- as every cell empty. Follows docs/RULES.md, "Propagation". Assumes nothing.
-use mathlib.Core.Path.{_≡_, refl, sym, ap, subst, subst₂, _∙_}
 use mathlib.Core.Bool.{Bool, true, false}
 use mathlib.Core.List.{List}
+use mathlib.Core.Path.{_≡_, refl, sym, ap, subst, _∙_}
 use Prim.Native.Nat.{ℕ}
-use lib.ListN.{length, replicate}
+use lib.ListN.{replicate}
 use Rattle.adjacency.specs.Tables.{Table}
 use Rattle.grid.specs.Grid.{Grid}
 use Rattle.consistency.specs.Domains.{Sub, emptied, settledAs}
