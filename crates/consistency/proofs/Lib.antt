@@ -1,0 +1,15 @@
+pub mod DomainLaws
+pub mod Counting
+pub mod Owed
+pub mod Keep
+pub mod Steps
+pub mod ConsistentLaws
+pub mod Settled
+pub mod RemovalLaws
+pub mod LessenedLaws
+pub mod GreatestLaws
+pub mod StartLaws
+pub mod SettledLaws
+pub mod Given
+pub mod Parts
+pub mod Cases
