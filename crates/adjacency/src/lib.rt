@@ -15,6 +15,21 @@ pub mod inner;
 pub fn check_table(count: usize, weights: &[u32], offsets: &[u32], ids: &[u8]) -> Verdict
     ensures { λ r. ⌜ numberOf r ≡ tableRefusal (table count (now (offsets .entry)) (now (ids .entry))) (now (weights .entry)) ⌝ }
 {
+    if inner::bad_count(count) {
+        return Verdict::Refused(Refusal::BadCount);
+    }
+    if weights.len() != count || inner::bad_offsets(count, offsets) {
+        return Verdict::Refused(Refusal::BadLength);
+    }
+    if inner::over_weight(weights) {
+        return Verdict::Refused(Refusal::BadWeights);
+    }
+    if inner::bad_list(count, offsets, ids) {
+        return Verdict::Refused(Refusal::BadList);
+    }
+    if inner::disagrees(count, offsets, ids) {
+        return Verdict::Refused(Refusal::Disagree);
+    }
     Verdict::Accepted
 }
 
@@ -28,7 +43,10 @@ pub fn list<'a>(
 ) -> &'a [u8]
     ensures { λ r. ⌜ now r ≡ listAnswer (table count (now (offsets .entry)) (now (ids .entry))) pattern direction ⌝ }
 {
-    &ids[0..0]
+    match list_refusal(count, offsets, ids, pattern, direction) {
+        Verdict::Accepted => inner::list_of(count, offsets, ids, pattern, direction),
+        Verdict::Refused(_) => &ids[0..0],
+    }
 }
 
 // Beside `list`, with the same words: whether it is answered, or why not.
@@ -41,5 +59,23 @@ pub fn list_refusal(
 ) -> Verdict
     ensures { λ r. ⌜ numberOf r ≡ listRefusal (table count (now (offsets .entry)) (now (ids .entry))) pattern direction ⌝ }
 {
+    if inner::bad_count(count) {
+        return Verdict::Refused(Refusal::BadCount);
+    }
+    if inner::bad_offsets(count, offsets) {
+        return Verdict::Refused(Refusal::BadLength);
+    }
+    if inner::bad_list(count, offsets, ids) {
+        return Verdict::Refused(Refusal::BadList);
+    }
+    if inner::disagrees(count, offsets, ids) {
+        return Verdict::Refused(Refusal::Disagree);
+    }
+    if 3 < direction {
+        return Verdict::Refused(Refusal::BadDirection);
+    }
+    if count <= pattern {
+        return Verdict::Refused(Refusal::BadPattern);
+    }
     Verdict::Accepted
 }
