@@ -3,3 +3,4 @@ pub mod LogLaws
 pub mod EntropyLaws
 pub mod NoteLaws
 pub mod AskedLaws
+pub mod Cases
