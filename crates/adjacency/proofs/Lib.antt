@@ -3,3 +3,5 @@ pub mod ListLaws
 pub mod AcceptedLaws
 pub mod LookupLaws
 pub mod Times
+pub mod Unique
+pub mod Cases

@@ -89,5 +89,5 @@ tableTests t weights =
 
 -- the number of the first refusal of a table with its weights, 0 where it is accepted
 unfoldable pub tableRefusal : Table → List ℕ → ℕ
-unfolding firstOf
+unfolding firstOf badCount badWeights badOffsets overWeight badList disagree
 tableRefusal t weights = firstOf (tableTests t weights)

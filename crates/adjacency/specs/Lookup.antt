@@ -22,7 +22,7 @@ listTests t p d =
 
 -- the number of the first refusal, 0 where the list is answered
 unfoldable pub listRefusal : Table → ℕ → ℕ → ℕ
-unfolding firstOf
+unfolding firstOf badCount badOffsets badList disagree badDirection badPattern
 listRefusal t p d = firstOf (listTests t p d)
 
 -- the list where nothing is refused, and an empty part otherwise

@@ -72,12 +72,14 @@ pub fn over_weight(weights: &[u32]) -> bool
 
 // ---- lists
 
+// An id as an index.
 fn wide(x: u8) -> usize
     ensures { λ r. ⌜ r ≡ x ⌝ }
 {
     x as usize
 }
 
+// An offset as an index.
 fn place(x: u32) -> usize
     ensures { λ r. ⌜ r ≡ x ⌝ }
 {

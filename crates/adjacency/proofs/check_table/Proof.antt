@@ -1,12 +1,12 @@
 -- `adjacency::check_table` meets its contract: each return gives the first refusal whose test holds.
 -- Assumes nothing.
-use mathlib.Core.Bool.{true, false, _||_}
+use mathlib.Core.Bool.{Bool, true, false, _||_, cond}
 use mathlib.Core.Logic.{⊎-elim}
 use mathlib.Core.Path.{_≡_, refl, sym, _∙_}
 use borrow.Author.Tests.{eq-eqb, ne-eqb}
 use Rattle.refusals.specs.Refusals.{numberOf}
 use Rattle.adjacency.specs.Tables.{table}
-use Rattle.adjacency.specs.Checks.{badCount, badWeights, badOffsets, overWeight, badList}
+use Rattle.adjacency.specs.Checks.{badCount, badWeights, badOffsets, overWeight, badList, disagree, tableRefusal}
 use Rattle.adjacency.proofs.ListLaws.{listed}
 use Rattle.adjacency.proofs.AcceptedLaws.{tableRefusal-is, counted, offsets-long}
 use Rattle.adjacency.proofs.check_table.Statement.{statement}
@@ -29,6 +29,15 @@ weights-good c = sym (c .before .over-weight .ensures) ∙ c .if4 .left
 
 list-good : (c : tie.Else5) → let a = c .before .before .before .before .before .before .before .before .before .before .before .before .args in badList (table (a .count) (a .offsets .now) (a .ids .now)) ≡ false
 list-good c = sym (c .before .bad-list .ensures) ∙ c .if5 .left
+
+-- once the lists are good, agreement decides
+at-agreement : (c : tie.Else5) {agreement : Bool} → let a = c .before .before .before .before .before .before .before .before .before .before .before .before .args in
+    let t = table (a .count) (a .offsets .now) (a .ids .now) in
+    disagree t ≡ agreement → tableRefusal t (a .weights .now) ≡ cond agreement 7 0
+at-agreement c =
+    let w = c .before .before in
+    let l = w .before .before in
+    tableRefusal-is _ _ (count-good (l .before .before .before)) (lengths-good l) (weights-good w) (list-good c)
 
 -- ---- the needs
 
@@ -74,19 +83,11 @@ disagrees-requires c κs = listed _ (offsets-long _ _ (offsets-good (c .before .
 
 returns-5 : tie.Need-returns-5
 unfolding numberOf
-returns-5 c =
-    let i = c .before .before in
-    let w = i .before .before in
-    let l = w .before .before in
-    sym (tableRefusal-is _ _ (count-good (l .before .before .before)) (lengths-good l) (weights-good w) (list-good i) (sym (c .before .disagrees .ensures) ∙ c .if6 .taken))
+returns-5 c = sym (at-agreement (c .before .before) (sym (c .before .disagrees .ensures) ∙ c .if6 .taken))
 
 returns-6 : tie.Need-returns-6
 unfolding numberOf
-returns-6 c =
-    let i = c .before .before in
-    let w = i .before .before in
-    let l = w .before .before in
-    sym (tableRefusal-is _ _ (count-good (l .before .before .before)) (lengths-good l) (weights-good w) (list-good i) (sym (c .before .disagrees .ensures) ∙ c .if6 .left))
+returns-6 c = sym (at-agreement (c .before .before) (sym (c .before .disagrees .ensures) ∙ c .if6 .left))
 
 pub check-table-spec : {M : Type 1} → statement M
 check-table-spec =

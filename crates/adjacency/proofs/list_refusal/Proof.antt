@@ -1,13 +1,13 @@
 -- `adjacency::list_refusal` meets its contract: each return gives the first refusal whose test holds.
 -- Assumes nothing.
-use mathlib.Core.Bool.{false}
+use mathlib.Core.Bool.{Bool, false, cond}
 use mathlib.Core.Path.{_≡_, refl, sym, _∙_}
 use borrow.Author.Tests.{lt-ltb, le-ltb, le-leb, lt-leb}
 use Rattle.directions.specs.Directions.{badDirection}
 use Rattle.refusals.specs.Refusals.{numberOf}
 use Rattle.adjacency.specs.Tables.{table}
 use Rattle.adjacency.specs.Checks.{badCount, badOffsets, badList, disagree}
-use Rattle.adjacency.specs.Lookup.{badPattern}
+use Rattle.adjacency.specs.Lookup.{badPattern, listRefusal}
 use Rattle.adjacency.proofs.ListLaws.{listed}
 use Rattle.adjacency.proofs.AcceptedLaws.{counted, offsets-long}
 use Rattle.adjacency.proofs.LookupLaws.{listRefusal-is}
@@ -27,6 +27,15 @@ list-good c = sym (c .before .bad-list .ensures) ∙ c .if3 .left
 
 lists-agree : (c : tie.Else4) → let a = c .before .before .before .before .before .before .before .before .before .before .args in disagree (table (a .count) (a .offsets .now) (a .ids .now)) ≡ false
 lists-agree c = sym (c .before .disagrees .ensures) ∙ c .if4 .left
+
+-- once the table is good, the direction decides, and then the pattern
+at-direction : (c : tie.Else4) {direction pattern : Bool} → let a = c .before .before .before .before .before .before .before .before .before .before .args in
+    badDirection (a .direction) ≡ direction → badPattern (a .count) (a .pattern) ≡ pattern
+    → listRefusal (table (a .count) (a .offsets .now) (a .ids .now)) (a .pattern) (a .direction) ≡ cond direction 11 (cond pattern 9 0)
+at-direction c =
+    let l = c .before .before in
+    let o = l .before .before in
+    listRefusal-is _ _ _ (count-good (o .before .before)) (offsets-good o) (list-good l) (lists-agree c)
 
 -- ---- the needs
 
@@ -65,27 +74,15 @@ returns-4 c =
 
 returns-5 : tie.Need-returns-5
 unfolding numberOf badDirection
-returns-5 c =
-    let a = c .before in
-    let l = a .before .before in
-    let o = l .before .before in
-    sym (listRefusal-is _ _ _ (count-good (o .before .before)) (offsets-good o) (list-good l) (lists-agree a) (lt-ltb _ _ (c .if5 .taken)) refl)
+returns-5 c = sym (at-direction (c .before) (lt-ltb _ _ (c .if5 .taken)) refl)
 
 returns-6 : tie.Need-returns-6
 unfolding numberOf badDirection badPattern
-returns-6 c =
-    let a = c .before .before in
-    let l = a .before .before in
-    let o = l .before .before in
-    sym (listRefusal-is _ _ _ (count-good (o .before .before)) (offsets-good o) (list-good l) (lists-agree a) (le-ltb _ _ (c .before .if5 .left)) (le-leb _ _ (c .if6 .taken)))
+returns-6 c = sym (at-direction (c .before .before) (le-ltb _ _ (c .before .if5 .left)) (le-leb _ _ (c .if6 .taken)))
 
 returns-7 : tie.Need-returns-7
 unfolding numberOf badDirection badPattern
-returns-7 c =
-    let a = c .before .before in
-    let l = a .before .before in
-    let o = l .before .before in
-    sym (listRefusal-is _ _ _ (count-good (o .before .before)) (offsets-good o) (list-good l) (lists-agree a) (le-ltb _ _ (c .before .if5 .left)) (lt-leb _ _ (c .if6 .left)))
+returns-7 c = sym (at-direction (c .before .before) (le-ltb _ _ (c .before .if5 .left)) (lt-leb _ _ (c .if6 .left)))
 
 pub list-refusal-spec : {M : Type 1} → statement M
 list-refusal-spec =
