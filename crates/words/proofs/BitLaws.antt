@@ -1,9 +1,9 @@
 -- Laws of a word's bits, over any width: by halves, of no pattern, of one and of all, of what two words share,
 -- and that two words with the same bits are the same.
 -- Assumes nothing.
+use mathlib.Core.Bool.{true, false, not}
 use mathlib.Core.Path.{_≡_, refl, sym, ap, ap₂, _∙_, subst}
-use mathlib.Core.Bool.{Bool, true, false, not}
-use Prim.Native.Nat.{ℕ, min, zero, suc, _+_, _-_, _*_, _/_, _%_, _^_, _≤_, _<_, suc-le-suc}
+use Prim.Native.Nat.{ℕ, min, zero, suc, _*_, _/_, _%_, _^_, _≤_, _<_, suc-le-suc}
 use native.Mathlib.Decide.{decLt}
 use native.Mathlib.Nat.{mod-lt, mod-le, div-one, pow-succ', div-div-eq-div-mul, div-mul-le-self, mul-le-mul-right, le-trans, zero-lt-suc, le-of-suc-le-suc, not-suc-le-zero, one-mul, zero-mul, mod-eq-of-lt, div-eq-of-lt}
 use native.Mathlib.Numerals.{add-one}

@@ -1,13 +1,12 @@
 -- Laws of a word that changes: a pattern taken out, a pattern put in, and a word gathered pattern by pattern.
 -- Assumes nothing.
-use mathlib.Core.Path.{_≡_, refl, sym, ap, ap₂, _∙_, subst}
 use mathlib.Core.Bool.{Bool, true, false, cond}
+use mathlib.Core.Path.{_≡_, refl, sym, ap, ap₂, _∙_}
 use Prim.Native.Nat.{ℕ, zero, suc, _+_, _-_, _*_, _/_, _%_, _^_, _≤_, _<_}
 use native.Mathlib.Decide.{ℕ-discrete}
 use native.Mathlib.Nat.{pow-succ', mul-assoc, mul-comm, one-mul, zero-mul, sub-zero, not-suc-le-zero, le-of-suc-le-suc}
-use native.Mathlib.Numerals.{add-one}
 use native.Mathlib.Omega.{arith}
-use lib.Pow.{pow-pos, high}
+use lib.Pow.{pow-pos}
 use Rattle.loops.specs.Sums.{sumTo}
 use Rattle.words.specs.Words.{bit, without, joined, alone, gathered}
 use Rattle.words.proofs.BitLaws.{half-lt, bit-zero, bit-suc, bit-fits, bit-le, bit-high}

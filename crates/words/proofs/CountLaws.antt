@@ -1,16 +1,16 @@
 -- Laws of how many patterns a word has, over any width: the count of ones, one less without a pattern, none and one alone.
 -- Assumes nothing.
-use mathlib.Core.Path.{_≡_, refl, sym, ap, _∙_, subst}
+use mathlib.Core.Path.{_≡_, refl, sym, ap, _∙_}
 use Prim.Native.Nat.{ℕ, zero, suc, _+_, _/_, _%_, _^_, _≤_, _<_}
 use native.Mathlib.Decide.{ℕ-discrete}
-use native.Mathlib.Nat.{pow-succ', not-suc-le-zero, le-refl}
+use native.Mathlib.Nat.{le-refl}
 use native.Mathlib.Omega.{arith}
 use lib.Arith.{lt-one}
 use lib.Count.{ones, ones-step}
 use Rattle.loops.specs.Sums.{sumTo}
-use Rattle.loops.proofs.SumLaws.{sum-ext, sum-at, sum-zero, sum-le, sum-mono}
 use Rattle.words.specs.Words.{bit, without, alone, full, howMany}
-use Rattle.words.proofs.BitLaws.{half-lt, bit-zero, bit-suc, bit-lt, bit-not, bit-none, bit-high, bit-full, bit-alone, bit-alone-other, word-ext}
+use Rattle.loops.proofs.SumLaws.{sum-at, sum-zero, sum-le}
+use Rattle.words.proofs.BitLaws.{half-lt, bit-zero, bit-suc, bit-lt, bit-none, bit-full, bit-alone, bit-alone-other, word-ext}
 use Rattle.words.proofs.ChangeLaws.{bit-without, bit-without-other}
 
 -- ---- the count of ones is how many patterns are in the word

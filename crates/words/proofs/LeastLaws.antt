@@ -1,9 +1,9 @@
 -- Laws of a word's least pattern, over any width: trailing zeros name it, it is in the word and none below it is, and a decided word is that pattern alone.
 -- Assumes nothing.
-use mathlib.Core.Path.{_≡_, refl, sym, ap, _∙_, subst}
 use mathlib.Core.Bool.{Bool, true, false, cond}
-use Prim.Native.Nat.{ℕ, zero, suc, _+_, _/_, _%_, _^_, _≤_, _<_, suc-le-suc, zero-le}
-use native.Mathlib.Decide.{decLt, ℕ-discrete}
+use mathlib.Core.Path.{_≡_, refl, sym, ap, _∙_, subst}
+use Prim.Native.Nat.{ℕ, zero, suc, _/_, _%_, _^_, _≤_, _<_, suc-le-suc, zero-le}
+use native.Mathlib.Decide.{ℕ-discrete}
 use native.Mathlib.Nat.{mod-lt, le-of-suc-le-suc, not-suc-le-zero, zero-lt-suc, lt-irrefl, lt-trans, lt-of-not-le, le-antisymm, le-refl}
 use native.Mathlib.Omega.{arith}
 use lib.Arith.{lt-one}
@@ -11,8 +11,8 @@ use lib.Count.{trailingZeros, under}
 use lib.Dec.{lit<, eqb}
 use lib.Pow.{pow-mono}
 use Rattle.words.specs.Words.{bit, has, without, alone, howMany, leastFrom, least}
-use Rattle.words.proofs.BitLaws.{half-lt, bit-zero, bit-suc, bit-lt, bit-not, bit-none, bit-below, bit-alone, bit-alone-other, alone-lt, word-ext}
-use Rattle.words.proofs.ChangeLaws.{bit-without, bit-without-other, without-le}
+use Rattle.words.proofs.BitLaws.{half-lt, bit-zero, bit-suc, bit-lt, bit-none, bit-below, bit-alone, bit-alone-other, alone-lt, word-ext}
+use Rattle.words.proofs.ChangeLaws.{bit-without-other, without-le}
 use Rattle.words.proofs.CountLaws.{many-without, many-zero, many-none}
 
 -- ---- the trailing zeros are the least pattern

@@ -1,6 +1,6 @@
 -- `words::inner::beyond_count` meets its contract: a word is beyond a count where something is left after shifting the count away.
 -- Assumes nothing.
-use mathlib.Core.Path.{_≡_, refl, sym, ap, _∙_}
+use mathlib.Core.Path.{sym}
 use borrow.Author.Needs.{needs}
 use Rattle.words.proofs.BitLaws.{false-beyond, beyond-shift}
 use Rattle.words.proofs.inner.beyond_count.Statement.{statement}

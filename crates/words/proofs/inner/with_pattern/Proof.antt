@@ -1,7 +1,6 @@
 -- `words::inner::with_pattern` meets its contract: where bit p is not set, adding 2 ^ p sets it and nothing else.
 -- Assumes nothing.
-use mathlib.Core.Path.{sym, _∙_, ap}
-use Prim.Native.Nat.{ℕ, _+_, _^_, _<_}
+use mathlib.Core.Path.{sym}
 use native.Mathlib.Omega.{arith}
 use borrow.Author.Needs.{needs}
 use Rattle.words.specs.Words.{bit}
