@@ -44,6 +44,10 @@ cases =
     ∷ case (grid 1 1 1) [] (3 ∷ []) false  -- D: it stays, though no assignment exists
     ∷ case (grid 1 1 1) keep0 (0 ∷ []) true  -- E
     ∷ case (grid 1 1 0) keep0 (1 ∷ []) false  -- F
+    ∷ case (grid 2 1 0) (others 2 1 0) (2 ∷ 1 ∷ []) false  -- A to the west
+    ∷ case (grid 1 2 0) keep0 (1 ∷ 2 ∷ []) false  -- A to the south
+    ∷ case (grid 1 2 0) (others 2 1 0) (2 ∷ 1 ∷ []) false  -- A to the north
+    ∷ case (grid 2 1 1) keep0 (1 ∷ 2 ∷ []) false  -- two columns joined: East and West both hold
     ∷ []
 
 -- propagated, with the removals kept beside, the last one first
@@ -58,7 +62,7 @@ Hold (k ∷ ks) = (settledAs ((ran (k .on) (k .asked)) .domains) ≡ k .domains)
 
 pub cases-hold : Hold cases
 unfolding Hold cases
-cases-hold = (refl, refl, (refl, refl, (refl, refl, (refl, refl, (refl, refl, (refl, refl, tt))))))
+cases-hold = (refl, refl, (refl, refl, (refl, refl, (refl, refl, (refl, refl, (refl, refl, (refl, refl, (refl, refl, (refl, refl, (refl, refl, tt))))))))))
 
 -- the order is seen: in B pattern 1 goes at cell 0, then 0 at cell 1, then 1 at cell 2
 pub order-of-B : (ran (grid 3 1 0) keep0) .beside ≡ removal 2 1 ∷ removal 1 0 ∷ removal 0 1 ∷ []

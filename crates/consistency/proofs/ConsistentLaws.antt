@@ -2,6 +2,7 @@
 -- and with one pattern per cell no list is violated. Follows docs/RULES.md, "Propagation". Assumes nothing.
 use mathlib.Core.List.{List}
 use mathlib.Core.Option.{Option, none, some}
+use mathlib.Core.Logic.{inl, inr, ⊎-elim}
 use mathlib.Core.Path.{_≡_, refl, ap, subst, _∙_}
 use Prim.Native.Nat.{ℕ, zero, suc, _*_, _<_}
 use native.Mathlib.Omega.{arith}
@@ -11,7 +12,7 @@ use Rattle.directions.specs.Directions.{opposite}
 use Rattle.adjacency.specs.Tables.{Table, listOf, inList}
 use Rattle.adjacency.specs.Accepted.{Accepted}
 use Rattle.grid.specs.Grid.{Grid, cells, neighbour}
-use Rattle.consistency.specs.Domains.{possible, filled, Fit}
+use Rattle.consistency.specs.Domains.{possible, filled, Fit, Union}
 use Rattle.consistency.specs.Consistent.{Consistent}
 use Rattle.loops.proofs.SumLaws.{sum-ext, sum-le, sum-pos}
 use Rattle.words.proofs.BitLaws.{bit-lt}
@@ -82,6 +83,12 @@ module _ (t : Table) (g : Grid) (A : Accepted t) where
   full-consistent =
       supported-consistent (filled (t .count) (cells g)) (fit-filled (t .count) (cells g))
       (λ n q d hn hq hd _. omega (arith, supports-filled n q d hn hq hd, A .listed .filled q (opposite d) hq (opposite-below d hd)))
+
+-- consistent domains are closed under union
+pub consistent-union : (t : Table) (g : Grid) (D E U : List ℕ) → Union D E U → Consistent t g D → Consistent t g E → Consistent t g U
+consistent-union t g D E U u a b c p d n hd h e =
+    ⊎-elim (λ k. let (q, i, z) = a c p d n hd k e in (q, i, u n q .1 (inl z))) (λ k. let (q, i, z) = b c p d n hd k e in (q, i, u n q .1 (inr z)))
+    (u c p .0 h)
 
 -- consistent domains with one pattern per cell violate no list
 pub one-each : (t : Table) (g : Grid) (D : List ℕ) → Fit (t .count) (cells g) D → Consistent t g D

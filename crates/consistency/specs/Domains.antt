@@ -2,6 +2,7 @@
 -- Assumes nothing.
 use mathlib.Core.Bool.{Bool, false, cond, _||_}
 use mathlib.Core.List.{List, [], _∷_}
+use mathlib.Core.Logic.{_↔_, _⊎_}
 use mathlib.Core.Path.{_≡_}
 use Prim.Native.Nat.{ℕ, _^_, _<_}
 use lib.Dec.{eqb}
@@ -28,6 +29,10 @@ pub record Fit (P n : ℕ) (D : List ℕ) : Type 0 where
 -- D is a subset of E: every pattern possible in D is possible in E
 abbrev pub Sub : List ℕ → List ℕ → Type 0
 Sub D E = (c p : ℕ) → possible D c p ≡ 1 → possible E c p ≡ 1
+
+-- U is the union of D and E: a pattern is possible in it exactly where it is in one of them
+abbrev pub Union : List ℕ → List ℕ → List ℕ → Type 0
+Union D E U = (c p : ℕ) → (possible U c p ≡ 1) ↔ ((possible D c p ≡ 1) ⊎ (possible E c p ≡ 1))
 
 -- some cell is empty
 unfoldable pub emptied : List ℕ → Bool

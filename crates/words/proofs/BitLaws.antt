@@ -1,19 +1,19 @@
--- Laws of a word's bits, over any width: by halves, of no pattern, of one and of all, of what two words share,
+-- Laws of a word's bits, over any width: by halves, of no pattern, of one and of all, of what two words share and have together,
 -- and that two words with the same bits are the same.
 -- Assumes nothing.
 use mathlib.Core.Bool.{true, false, not}
 use mathlib.Core.Path.{_≡_, refl, sym, ap, ap₂, _∙_, subst}
-use Prim.Native.Nat.{ℕ, min, zero, suc, _*_, _/_, _%_, _^_, _≤_, _<_, suc-le-suc}
+use Prim.Native.Nat.{ℕ, min, max, zero, suc, _+_, _*_, _/_, _%_, _^_, _≤_, _<_, suc-le-suc}
 use native.Mathlib.Decide.{decLt}
 use native.Mathlib.Nat.{mod-lt, mod-le, div-one, pow-succ', div-div-eq-div-mul, div-mul-le-self, mul-le-mul-right, le-trans, zero-lt-suc, le-of-suc-le-suc, not-suc-le-zero, one-mul, zero-mul, mod-eq-of-lt, div-eq-of-lt}
 use native.Mathlib.Numerals.{add-one}
 use native.Mathlib.Omega.{arith}
 use lib.Arith.{lt-one}
-use lib.Bits.{bitAnd, and-step}
+use lib.Bits.{bitAnd, bitOr, and-step, or-step, or-lt}
 use lib.Dec.{lit<, leb, eqb}
 use lib.Pow.{shr-lt, pow-lt, pow-mono, pow-pos, split}
 use borrow.Author.Tests.{eq-eqb, ne-eqb, eqb-true, leb-true, leb-false, le-leb, lt-leb}
-use Rattle.words.specs.Words.{bit, has, alone, full, beyond}
+use Rattle.words.specs.Words.{bit, has, union, alone, full, beyond}
 
 -- ---- by halves
 
@@ -139,6 +139,18 @@ one-shl k p h = ap (λ (x : ℕ). x % 2 ^ k) (one-mul (2 ^ p)) ∙ mod-eq-of-lt 
 
 -- ---- what two words share
 
+-- a bit of what is made of two words bit by bit, where `low` says what two lowest bits give
+module _ (op : ℕ → ℕ → ℕ) (low : ℕ → ℕ → ℕ) (step : (v w : ℕ) → op v w ≡ op (v / 2) (w / 2) * 2 + low (v % 2) (w % 2))
+    (small : (a b : ℕ) → a < 2 → b < 2 → low a b < 2) where
+  bit-op : (v w p : ℕ) → bit (op v w) p ≡ low (bit v p) (bit w p)
+  bit-op v w zero =
+      let s = small (v % 2) (w % 2) (mod-lt v (lit< tt)) (mod-lt w (lit< tt)) in
+      bit-zero (op v w) ∙ omega (arith, step v w, s) ∙ sym (ap₂ low (bit-zero v) (bit-zero w))
+  bit-op v w (suc p) =
+      let s = small (v % 2) (w % 2) (mod-lt v (lit< tt)) (mod-lt w (lit< tt)) in
+      let half : op v w / 2 ≡ op (v / 2) (w / 2) = omega (arith, step v w, s) in
+      bit-suc (op v w) p ∙ ap (λ (x : ℕ). bit x p) half ∙ bit-op (v / 2) (w / 2) p ∙ sym (ap₂ low (bit-suc v p) (bit-suc w p))
+
 min-bits : (a b : ℕ) → a < 2 → b < 2 → min a b ≡ a * b
 min-bits zero zero ha hb = refl
 min-bits zero (suc zero) ha hb = refl
@@ -149,14 +161,7 @@ min-bits (suc zero) (suc (suc b)) ha hb = absurd (omega arith)
 min-bits (suc (suc a)) b ha hb = absurd (omega arith)
 
 pub bit-and : (v w p : ℕ) → bit (bitAnd v w) p ≡ bit v p * bit w p
-bit-and v w zero =
-    let m = min-bits (v % 2) (w % 2) (mod-lt v (lit< tt)) (mod-lt w (lit< tt)) in
-    let low : min (v % 2) (w % 2) < 2 = omega arith in
-    bit-zero (bitAnd v w) ∙ omega (arith, and-step v w, low) ∙ m ∙ sym (ap₂ (λ (a b : ℕ). a * b) (bit-zero v) (bit-zero w))
-bit-and v w (suc p) =
-    let low : min (v % 2) (w % 2) < 2 = omega arith in
-    let half : bitAnd v w / 2 ≡ bitAnd (v / 2) (w / 2) = omega (arith, and-step v w, low) in
-    bit-suc (bitAnd v w) p ∙ ap (λ (x : ℕ). bit x p) half ∙ bit-and (v / 2) (w / 2) p ∙ sym (ap₂ (λ (a b : ℕ). a * b) (bit-suc v p) (bit-suc w p))
+bit-and v w p = bit-op bitAnd min and-step (λ a b ha hb. omega arith) v w p ∙ min-bits (bit v p) (bit w p) (bit-lt v p) (bit-lt w p)
 
 -- a pattern is shared exactly where both words have it
 pub both-shared : (v w p : ℕ) → bit v p ≡ 1 → bit w p ≡ 1 → bit (bitAnd v w) p ≡ 1
@@ -169,6 +174,16 @@ shared-both v w p e = go (bit v p) (bit w p) (bit-lt v p) (bit-lt w p) (sym (bit
     go zero b ha hb e = absurd (omega (arith, zero-mul b))
     go (suc zero) b ha hb e = (refl, sym (one-mul b) ∙ e)
     go (suc (suc a)) b ha hb e = absurd (omega arith)
+
+-- ---- what one of two words has
+
+pub bit-union : (v w p : ℕ) → bit (union v w) p ≡ max (bit v p) (bit w p)
+unfolding union
+bit-union v w p = bit-op bitOr max or-step (λ a b ha hb. omega arith) v w p
+
+pub union-lt : (k v w : ℕ) → v < 2 ^ k → w < 2 ^ k → union v w < 2 ^ k
+unfolding union
+union-lt k v w hv hw = or-lt k v w hv hw
 
 -- ---- two words with the same patterns are the same
 

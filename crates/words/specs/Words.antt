@@ -2,6 +2,7 @@
 -- Assumes nothing.
 use mathlib.Core.Bool.{Bool, true, false, cond}
 use Prim.Native.Nat.{ℕ, zero, suc, _+_, _-_, _*_, _/_, _%_, _^_}
+use lib.Bits.{bitOr}
 use lib.Dec.{leb, eqb}
 use Rattle.loops.specs.Sums.{sumTo}
 
@@ -23,6 +24,10 @@ without w p = w - bit w p * 2 ^ p
 unfoldable pub joined : ℕ → ℕ → ℕ
 unfolding bit
 joined w p = w + (1 - bit w p) * 2 ^ p
+
+-- the word of what one of two words has
+unfoldable pub union : ℕ → ℕ → ℕ
+union v w = bitOr v w
 
 -- the word of pattern p alone
 unfoldable pub alone : ℕ → ℕ
