@@ -1,0 +1,4 @@
+pub mod Supports
+pub mod Beside
+pub mod Lent
+pub mod Propagate
