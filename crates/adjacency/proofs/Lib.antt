@@ -1,0 +1,2 @@
+pub mod WeightLaws
+pub mod ListLaws

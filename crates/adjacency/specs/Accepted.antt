@@ -28,17 +28,16 @@ pub record Laid (t : Table) : Type 0 where
   pub rising : (k : ℕ) → k < 4 * t .count → getD (t .offsets) k 0 ≤ getD (t .offsets) (k + 1) 0
   pub ends : (k : ℕ) → k ≤ 4 * t .count → getD (t .offsets) k 0 ≤ length (t .ids)
 
--- what acceptance gives
-pub record Accepted (t : Table) : Type 0 where
-  pub some : 1 ≤ t .count
-  pub few : t .count ≤ 64
+-- what refusal 6 leaves
+pub record Listed (t : Table) : Type 0 where
   pub laid : Laid t
   pub filled : (p d : ℕ) → p < t .count → d < 4 → 0 < length (listOf t p d)
   pub ascends : (p d : ℕ) → p < t .count → d < 4 → Ascends (listOf t p d)
   pub below : (p d : ℕ) → p < t .count → d < 4 → AllBelow (t .count) (listOf t p d)
-  pub agree : (p q d : ℕ) → p < t .count → d < 4 → inList t p d q → inList t q (opposite d) p
 
--- what the check of weights gives
-pub record Weighed (P : ℕ) (weights : List ℕ) : Type 0 where
-  pub one-each : length weights ≡ P
-  pub light : (p : ℕ) → getD weights p 0 ≤ 1024
+-- what acceptance gives
+pub record Accepted (t : Table) : Type 0 where
+  pub some : 1 ≤ t .count
+  pub few : t .count ≤ 64
+  pub listed : Listed t
+  pub agree : (p q d : ℕ) → p < t .count → d < 4 → inList t p d q → inList t q (opposite d) p

@@ -17,8 +17,8 @@ unfoldable pub badCount : ℕ → Bool
 badCount P = eqb P 0 || ltb 64 P
 
 -- the offsets are not 4P + 1
-unfoldable pub badOffsets : Table → Bool
-badOffsets t = not (eqb (length (t .offsets)) (4 * t .count + 1))
+unfoldable pub badOffsets : ℕ → List ℕ → Bool
+badOffsets P offsets = not (eqb (length offsets) (4 * P + 1))
 
 -- the weights are not P
 unfoldable pub badWeights : ℕ → List ℕ → Bool
@@ -31,12 +31,15 @@ overWeight weights = ltb 1024 (wholeWeight weights)
 
 -- ---- lists
 
+-- the offset after offset k is no less
+abbrev pub risesAt : List ℕ → ℕ → Bool
+risesAt offsets k = leb (getD offsets k 0) (getD offsets (k + 1) 0)
+
 -- the first offset is 0, no offset falls, and the last is the ids' length
 unfoldable pub offsetsOk : Table → Bool
 unfolding allTo
 offsetsOk t =
-    eqb (getD (t .offsets) 0 0) 0
-    && (allTo (4 * t .count) (λ k. leb (getD (t .offsets) k 0) (getD (t .offsets) (k + 1) 0)) && eqb (getD (t .offsets) (4 * t .count) 0) (length (t .ids)))
+    eqb (getD (t .offsets) 0 0) 0 && (allTo (4 * t .count) (risesAt (t .offsets)) && eqb (getD (t .offsets) (4 * t .count) 0) (length (t .ids)))
 
 -- each id is above the one before it, and the last is below P
 unfoldable pub risesBelow : ℕ → List ℕ → Bool
@@ -50,10 +53,15 @@ unfolding risesBelow
 listOk P [] = false
 listOk P (x ∷ l) = risesBelow P (x ∷ l)
 
+-- each list is so
+unfoldable pub listsOk : Table → Bool
+unfolding allTo listOk listAt
+listsOk t = allTo (4 * t .count) (λ k. listOk (t .count) (listAt t k))
+
 -- the offsets or a list are not as they must be
 unfoldable pub badList : Table → Bool
-unfolding offsetsOk allTo listOk listAt
-badList t = not (offsetsOk t && allTo (4 * t .count) (λ k. listOk (t .count) (listAt t k)))
+unfolding offsetsOk listsOk
+badList t = not (offsetsOk t && listsOk t)
 
 -- ---- agreement
 
@@ -71,7 +79,7 @@ disagree t = not (allTo (4 * t .count) (λ k. agreesAt t (k / 4) (k % 4)))
 
 abbrev pub tableTests : Table → List ℕ → List Test
 tableTests t weights =
-    (badCount (t .count) gives BadCount) ∷ (badWeights (t .count) weights || badOffsets t gives BadLength) ∷ (overWeight weights gives BadWeights)
+    (badCount (t .count) gives BadCount) ∷ (badWeights (t .count) weights || badOffsets (t .count) (t .offsets) gives BadLength) ∷ (overWeight weights gives BadWeights)
     ∷ (badList t gives BadList) ∷ (disagree t gives Disagree) ∷ []
 
 -- the number of the first refusal of a table with its weights, 0 where it is accepted

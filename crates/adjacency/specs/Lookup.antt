@@ -17,7 +17,7 @@ badPattern P p = leb P p
 -- 3, 5, 6, 7, 11, 9
 abbrev pub listTests : Table → ℕ → ℕ → List Test
 listTests t p d =
-    (badCount (t .count) gives BadCount) ∷ (badOffsets t gives BadLength) ∷ (badList t gives BadList) ∷ (disagree t gives Disagree)
+    (badCount (t .count) gives BadCount) ∷ (badOffsets (t .count) (t .offsets) gives BadLength) ∷ (badList t gives BadList) ∷ (disagree t gives Disagree)
     ∷ (badDirection d gives BadDirection) ∷ (badPattern (t .count) p gives BadPattern) ∷ []
 
 -- the number of the first refusal, 0 where the list is answered

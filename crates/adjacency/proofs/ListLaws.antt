@@ -1,0 +1,113 @@
+-- Laws of the checks of lists: the turns of the loops that make them, and what a check that passed gives.
+-- Follows docs/RULES.md, "Tables".
+-- Assumes nothing.
+use mathlib.Core.Bool.{Bool, true, false, _&&_}
+use mathlib.Core.List.{List, [], _∷_}
+use mathlib.Core.Path.{_≡_, refl, ap}
+use Prim.Native.Nat.{ℕ, zero, suc, _+_, _*_, _≤_, _<_}
+use native.Mathlib.Decide.{ℕ-discrete}
+use native.Mathlib.Nat.{le-refl, le-of-eq, le-of-suc-le-suc}
+use native.Mathlib.Numerals.{add-one}
+use native.Mathlib.Omega.{arith}
+use lib.Dec.{T, eqb, ltb, leb→le, ltb→lt}
+use lib.Ieee.Fits.{and-l, and-r}
+use lib.ListN.{length, getD, drop, drop-of-length-le}
+use lib.Seq.{drop-cons}
+use borrow.Author.Tests.{eqb-true, lt-ltb, le-ltb, not-false}
+use Rattle.loops.specs.Tests.{allTo}
+use Rattle.adjacency.specs.Tables.{Table, listAt, listOf}
+use Rattle.adjacency.specs.Checks.{risesAt, risesBelow, offsetsOk, listOk, listsOk, badList}
+use Rattle.adjacency.specs.Accepted.{AllBelow, AllAbove, Ascends, Laid, Listed}
+use Rattle.loops.proofs.TestLaws.{T-true, both, all-at}
+
+-- ---- a list that ascends below P, entry by entry after `last`
+
+module _ (P : ℕ) (l : List ℕ) {R : Bool} where
+  rises-here : (last : ℕ) {i : ℕ} → i < length l → risesBelow P (last ∷ drop i l) ≡ R → (ltb last (getD l i 0) && risesBelow P (getD l i 0 ∷ drop (i + 1) l)) ≡ R
+  unfolding risesBelow
+  rises-here last {i} h inv = rw add-one (rw (drop-cons l i 0 h) at inv)
+
+  -- a turn at i, which is above the last
+  pub rises-turn : {i last q : ℕ} → i < length l → q ≡ getD l i 0 → last < q → risesBelow P (last ∷ drop i l) ≡ R → risesBelow P (q ∷ drop (i + 1) l) ≡ R
+  rises-turn {i} {last} {q} h e above inv =
+      let k : ltb last (getD l i 0) ≡ true = rw e at (lt-ltb last q above) in
+      rw e (rw k at (rises-here last h inv))
+
+  -- a turn that is not ends the loop
+  pub rises-stop : {i last q : ℕ} → i < length l → q ≡ getD l i 0 → q ≤ last → risesBelow P (last ∷ drop i l) ≡ R → false ≡ R
+  rises-stop {i} {last} {q} h e above inv =
+      let k : ltb last (getD l i 0) ≡ false = rw e at (le-ltb last q above) in
+      rw k at (rises-here last h inv)
+
+  pub rises-end : (last : ℕ) {i : ℕ} → length l ≤ i → risesBelow P (last ∷ drop i l) ≡ R → ltb last P ≡ R
+  unfolding risesBelow
+  rises-end last h inv = rw (drop-of-length-le l h) at inv
+
+pub listOk-none : (P : ℕ) (l : List ℕ) → length l ≡ 0 → listOk P l ≡ false
+unfolding listOk
+listOk-none P [] e = refl
+listOk-none P (x ∷ l) e = absurd (omega arith)
+
+pub listOk-some : (P : ℕ) (l : List ℕ) → (length l ≡ 0 → ⊥) → risesBelow P (getD l 0 0 ∷ drop 1 l) ≡ listOk P l
+unfolding listOk
+listOk-some P [] n = absurd (n refl)
+listOk-some P (x ∷ l) n = refl
+
+-- ---- what a list that passed is
+
+above-less : {x y : ℕ} → x ≤ y → (l : List ℕ) → AllAbove y l → AllAbove x l
+above-less h [] a = tt
+above-less h (z ∷ l) a = (omega arith, above-less h l (a .1))
+
+rises-facts : (P : ℕ) (l : List ℕ) → T (risesBelow P l) → Ascends l × AllBelow P l
+unfolding risesBelow
+rises-facts P [] t = (tt, tt)
+rises-facts P (x ∷ []) t = ((tt, tt), (ltb→lt x P t, tt))
+rises-facts P (x ∷ y ∷ l) t =
+    let above = ltb→lt x y (and-l (ltb x y) (risesBelow P (y ∷ l)) t) in
+    let (a, b) = rises-facts P (y ∷ l) (and-r (ltb x y) (risesBelow P (y ∷ l)) t) in
+    (((above, above-less (omega arith) l (a .0)), a), (omega arith, b))
+
+pub listOk-facts : (P : ℕ) (l : List ℕ) → T (listOk P l) → (0 < length l) × (Ascends l × AllBelow P l)
+unfolding listOk
+listOk-facts P [] t = absurd t
+listOk-facts P (x ∷ l) t = (omega arith, rises-facts P (x ∷ l) t)
+
+pub allBelow-at : {n : ℕ} (l : List ℕ) → AllBelow n l → (i : ℕ) → i < length l → getD l i 0 < n
+allBelow-at [] a i h = absurd (omega arith)
+allBelow-at (x ∷ l) a zero h = a .0
+allBelow-at (x ∷ l) a (suc i) h = allBelow-at l (a .1) i (le-of-suc-le-suc h)
+
+-- ---- what offsets and lists that passed are
+
+-- numbers that never fall stay below the last
+climbs : (f : ℕ → ℕ) (n : ℕ) → ((i : ℕ) → i < n → f i ≤ f (i + 1)) → (i : ℕ) → i ≤ n → f i ≤ f n
+climbs f zero h i k = le-of-eq (ap f (omega arith))
+climbs f (suc n) h i k =
+    elim (ℕ-discrete i (suc n)) [
+      | yes e ↦ le-of-eq (ap f e)
+      | no e ↦ omega (arith, climbs f n (λ j l. h j (omega arith)) i (omega arith), h n (le-refl (suc n)), ap f (add-one n))
+    ]
+
+module _ (t : Table) (long : length (t .offsets) ≡ 4 * t .count + 1) where
+  pub laid : offsetsOk t ≡ true → Laid t
+  unfolding offsetsOk
+  laid ok =
+      let first = eqb (getD (t .offsets) 0 0) 0 in
+      let rises = allTo (4 * t .count) (risesAt (t .offsets)) in
+      let last = eqb (getD (t .offsets) (4 * t .count) 0) (length (t .ids)) in
+      let (rise, end) = both rises last (both first (rises && last) ok .1) in
+      let total : getD (t .offsets) (4 * t .count) 0 ≡ length (t .ids) = eqb-true _ _ end in
+      let step : (k : ℕ) → k < 4 * t .count → getD (t .offsets) k 0 ≤ getD (t .offsets) (k + 1) 0 =
+      λ k h. leb→le _ _ (all-at (risesAt (t .offsets)) (4 * t .count) (T-true rise) k h) in
+      record { long = long; rising = step; ends = λ k h. omega (arith, climbs (λ i. getD (t .offsets) i 0) (4 * t .count) step k h) }
+
+  pub listed : badList t ≡ false → Listed t
+  unfolding badList listsOk listOf
+  listed ok = record { laid = laid (parts .0); filled = λ p d hp hd. at p d hp hd .0; ascends = λ p d hp hd. at p d hp hd .1 .0; below = λ p d hp hd. at p d hp hd .1 .1 }
+    where
+      parts : (offsetsOk t ≡ true) × (listsOk t ≡ true)
+      parts = both _ _ (not-false _ ok)
+
+      at : (p d : ℕ) → p < t .count → d < 4 → (0 < length (listOf t p d)) × (Ascends (listOf t p d) × AllBelow (t .count) (listOf t p d))
+      at p d hp hd = listOk-facts (t .count) (listOf t p d) (all-at (λ k. listOk (t .count) (listAt t k)) (4 * t .count) (T-true (parts .1)) (4 * p + d) (omega arith))
