@@ -37,8 +37,3 @@ pub record Accepted (t : Table) : Type 0 where
   pub ascends : (p d : ℕ) → p < t .count → d < 4 → Ascends (listOf t p d)
   pub below : (p d : ℕ) → p < t .count → d < 4 → AllBelow (t .count) (listOf t p d)
   pub agree : (p q d : ℕ) → p < t .count → d < 4 → inList t p d q → inList t q (opposite d) p
-
--- what the check of weights gives
-pub record Weighed (P : ℕ) (weights : List ℕ) : Type 0 where
-  pub one-each : length weights ≡ P
-  pub light : (p : ℕ) → getD weights p 0 ≤ 1024

@@ -2,7 +2,8 @@
 -- Assumes nothing.
 use mathlib.Core.Bool.{Bool, not}
 use mathlib.Core.List.{List}
-use Prim.Native.Nat.{ℕ, _*_}
+use mathlib.Core.Path.{_≡_}
+use Prim.Native.Nat.{ℕ, _*_, _^_, _≤_, _<_}
 use lib.Dec.{eqb}
 use lib.ListN.{length, getD}
 use Rattle.loops.specs.Sums.{sumTo}
@@ -30,3 +31,14 @@ weighted weights p = not (eqb (weightOf weights p) 0)
 unfoldable pub mask : List ℕ → ℕ
 unfolding gathered weighted
 mask weights = gathered (length weights) (weighted weights)
+
+-- what the sum over a word needs to stay in range: few patterns, a whole of at most 1,024, and no pattern in the word past the last
+pub record Bounded (weights : List ℕ) (w : ℕ) : Type 0 where
+  pub few : length weights ≤ 64
+  pub light : wholeWeight weights ≤ 1024
+  pub inside : w < 2 ^ length weights
+
+-- what the check of weights gives
+pub record Weighed (P : ℕ) (weights : List ℕ) : Type 0 where
+  pub one-each : length weights ≡ P
+  pub light : wholeWeight weights ≤ 1024

@@ -2,8 +2,9 @@
 use mathlib.Core.Path.{_≡_, refl, sym, ap, _∙_}
 use mathlib.Core.Bool.{Bool, true, false, cond}
 use Prim.Native.Nat.{ℕ, zero, suc, _+_, _*_, _≤_, _<_, zero-le}
-use native.Mathlib.Nat.{le-refl}
-use native.Mathlib.Decide.{ℕ-discrete}
+use native.Mathlib.Nat.{le-refl, le-trans, le-add-right}
+use native.Mathlib.Numerals.{add-one}
+use native.Mathlib.Decide.{ℕ-discrete, le-ind}
 use native.Mathlib.Omega.{arith}
 use lib.Dec.{eqb}
 use borrow.Author.Tests.{eq-eqb, ne-eqb}
@@ -30,6 +31,15 @@ pub sum-mono : (n : ℕ) (f g : ℕ → ℕ) → ((i : ℕ) → i < n → f i �
 unfolding sumTo
 sum-mono zero f g h = zero-le
 sum-mono (suc n) f g h = omega (arith, sum-mono n f g (λ i k. h i (omega arith)), h n (le-refl (suc n)))
+
+-- one term more, and more terms
+pub sum-more : (n : ℕ) (f : ℕ → ℕ) → sumTo (n + 1) f ≡ sumTo n f + f n
+unfolding sumTo
+sum-more n f = rw add-one
+
+pub sum-upTo : (m n : ℕ) (f : ℕ → ℕ) → m ≤ n → sumTo m f ≤ sumTo n f
+unfolding sumTo
+sum-upTo m n f h = le-ind (λ (k : ℕ). sumTo m f ≤ sumTo k f) (le-refl (sumTo m f)) (λ k l e. le-trans e (le-add-right (sumTo k f) (f k))) n h
 
 -- two families that differ at p at most
 pub sum-at : (n : ℕ) (f g : ℕ → ℕ) (p : ℕ) → p < n → ((i : ℕ) → i < n → (i ≡ p → ⊥) → f i ≡ g i) → sumTo n f + g p ≡ sumTo n g + f p

@@ -158,6 +158,18 @@ bit-and v w (suc p) =
     let half : bitAnd v w / 2 ≡ bitAnd (v / 2) (w / 2) = omega (arith, and-step v w, low) in
     bit-suc (bitAnd v w) p ∙ ap (λ (x : ℕ). bit x p) half ∙ bit-and (v / 2) (w / 2) p ∙ sym (ap₂ (λ (a b : ℕ). a * b) (bit-suc v p) (bit-suc w p))
 
+-- a pattern is shared exactly where both words have it
+pub both-shared : (v w p : ℕ) → bit v p ≡ 1 → bit w p ≡ 1 → bit (bitAnd v w) p ≡ 1
+both-shared v w p a b = bit-and v w p ∙ ap₂ (λ (x y : ℕ). x * y) a b
+
+pub shared-both : (v w p : ℕ) → bit (bitAnd v w) p ≡ 1 → (bit v p ≡ 1) × (bit w p ≡ 1)
+shared-both v w p e = go (bit v p) (bit w p) (bit-lt v p) (bit-lt w p) (sym (bit-and v w p) ∙ e)
+  where
+    go : (a b : ℕ) → a < 2 → b < 2 → a * b ≡ 1 → (a ≡ 1) × (b ≡ 1)
+    go zero b ha hb e = absurd (omega (arith, zero-mul b))
+    go (suc zero) b ha hb e = (refl, sym (one-mul b) ∙ e)
+    go (suc (suc a)) b ha hb e = absurd (omega arith)
+
 -- ---- two words with the same patterns are the same
 
 pub word-ext : (k : ℕ) {v w : ℕ} → v < 2 ^ k → w < 2 ^ k → ((p : ℕ) → p < k → bit v p ≡ bit w p) → v ≡ w

@@ -10,7 +10,7 @@ use native.Mathlib.Omega.{arith}
 use lib.Pow.{pow-pos, high}
 use Rattle.loops.specs.Sums.{sumTo}
 use Rattle.words.specs.Words.{bit, without, joined, alone, gathered}
-use Rattle.words.proofs.BitLaws.{half-lt, bit-zero, bit-suc, bit-fits, bit-high}
+use Rattle.words.proofs.BitLaws.{half-lt, bit-zero, bit-suc, bit-fits, bit-le, bit-high}
 
 -- ---- a pattern taken out
 
@@ -58,6 +58,10 @@ without-set w p e = ap (λ (b : ℕ). w - b * 2 ^ p) e ∙ ap (λ (x : ℕ). w -
 pub without-unset : (w p : ℕ) → bit w p ≡ 0 → without w p ≡ w
 unfolding without
 without-unset w p e = ap (λ (b : ℕ). w - b * 2 ^ p) e ∙ ap (λ (x : ℕ). w - x) (zero-mul (2 ^ p)) ∙ sub-zero w
+
+-- taking a pattern out makes the word less, so a walk of its patterns ends
+pub without-less : (w p : ℕ) → bit w p ≡ 1 → without w p < w
+without-less w p e = omega (arith, without-set w p e, bit-le w p e, pow-pos p)
 
 -- ---- a pattern put in
 

@@ -9,6 +9,7 @@ use native.Mathlib.Omega.{arith}
 use lib.Arith.{lt-one}
 use lib.Count.{trailingZeros, under}
 use lib.Dec.{lit<, eqb}
+use lib.Pow.{pow-mono}
 use Rattle.words.specs.Words.{bit, has, without, alone, howMany, leastFrom, least}
 use Rattle.words.proofs.BitLaws.{half-lt, bit-zero, bit-suc, bit-lt, bit-not, bit-none, bit-below, bit-alone, bit-alone-other, alone-lt, word-ext}
 use Rattle.words.proofs.ChangeLaws.{bit-without, bit-without-other, without-le}
@@ -90,6 +91,12 @@ least-in k w h = subst (λ (x : ℕ). x < k → bit w x ≡ 1) (zeros-least k w)
 -- a word that is not empty has a least pattern
 pub least-lt : (k w : ℕ) → 0 < w → w < 2 ^ k → least k w < k
 least-lt k w p h = subst (λ (x : ℕ). x < k) (zeros-least k w) (zeros-lt k w p h)
+
+-- a word of k bits that is not empty has its least pattern below k, at any width that holds k
+pub least-found : (j k w : ℕ) → k ≤ j → w < 2 ^ k → (w ≡ 0 → ⊥) → (least j w < k) × (bit w (least j w) ≡ 1)
+least-found j k w l h n =
+    let at = least-in j w (least-lt j w (omega arith) (omega (arith, pow-mono l))) in
+    (bit-below w k (least j w) h at, at)
 
 -- it is the only pattern of the word with none below it
 pub least-unique : (k w p : ℕ) → p < k → bit w p ≡ 1 → ((q : ℕ) → q < p → bit w q ≡ 0) → least k w ≡ p
