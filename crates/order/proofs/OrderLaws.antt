@@ -1,14 +1,15 @@
 -- Laws of the order of floats, the NaN apart: `lt` is irreflexive and transitive, `eq` is an equivalence that `lt` respects,
 -- and of two values one is less or they are equal. Assumes nothing.
-use mathlib.Core.Bool.{Bool, true, false}
+use mathlib.Core.Bool.{Bool, true, false, and-not-self}
 use mathlib.Core.Logic.{_⊎_, inl, inr}
 use mathlib.Core.Path.{_≡_, refl, sym, _∙_}
-use Prim.Native.Nat.{ℕ, _≤_, _<_}
+use Prim.Native.Nat.{ℕ, _*_, _≤_, _<_}
+use native.Mathlib.Nat.{le-refl}
 use native.Mathlib.Omega.{arith}
-use lib.Ieee.{Float, lt, eq}
-use borrow.Author.Tests.{eqb-true, eq-eqb}
+use lib.Ieee.{Float, nan, inf, fin, up, down, lt, eq}
+use borrow.Author.Tests.{eqb-true, eq-eqb, le-ltb}
 use Rattle.order.specs.Numbers.{Number}
-use Rattle.order.proofs.RankLaws.{Alike, Pair, ranks, both, less-below, to-lt, to-ge, of-lt, of-ge}
+use Rattle.order.proofs.RankLaws.{Alike, ranks, both, less-below, to-lt, to-ge, of-lt, of-ge}
 
 -- from the floats' tests to the numbers, and back
 module _ {x y : Float} {i j : ℕ} (a : Alike x y i j) where
@@ -30,16 +31,16 @@ module _ {x y : Float} {i j : ℕ} (a : Alike x y i j) where
   rank-eq : i ≡ j → eq x y ≡ true
   rank-eq h = a .same ∙ eq-eqb i j h
 
-module _ (x : Float) (X : Number x) where
-  pub lt-irreflexive : lt x x ≡ false
-  lt-irreflexive = go (lt x x) refl (both x x X X)
-    where
-      go : (t : Bool) → lt x x ≡ t → Pair x x → lt x x ≡ false
-      go true e p = absurd (omega (arith, lt-rank (p .xy) e, lt-rank (p .yx) e))
-      go false e p = e
+-- nothing is below itself, the NaN too
+pub lt-irreflexive : (x : Float) → lt x x ≡ false
+unfolding lt
+lt-irreflexive nan = refl
+lt-irreflexive (inf s) = and-not-self s
+lt-irreflexive (fin false m e) = le-ltb (m * up e * down e) (m * up e * down e) (le-refl (m * up e * down e))
+lt-irreflexive (fin true m e) = le-ltb (m * up e * down e) (m * up e * down e) (le-refl (m * up e * down e))
 
-  pub eq-reflexive : eq x x ≡ true
-  eq-reflexive = let p = both x x X X in rank-eq (p .xy) (omega (arith, ge-rank (p .xy) lt-irreflexive, ge-rank (p .yx) lt-irreflexive))
+pub eq-reflexive : (x : Float) → Number x → eq x x ≡ true
+eq-reflexive x X = let p = both x x X X in rank-eq (p .xy) (omega (arith, ge-rank (p .xy) (lt-irreflexive x), ge-rank (p .yx) (lt-irreflexive x)))
 
 module _ (x y : Float) (X : Number x) (Y : Number y) where
   pub lt-asymmetric : lt x y ≡ true → lt y x ≡ false

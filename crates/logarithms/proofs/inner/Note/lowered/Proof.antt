@@ -1,15 +1,16 @@
+-- `logarithms::inner::Note::lowered` meets its contract: each arm returns what the definition picks at the test that led there.
+-- Assumes nothing.
+use Rattle.logarithms.specs.Notes.{lowered}
 use Rattle.logarithms.proofs.inner.Note.lowered.Statement.{statement}
 use Rattle.logarithms.proofs.inner.Note.lowered.Tie as tie
-use Rattle.logarithms.proofs.inner.Note.lowered.Reads as reads
-use Rattle.logarithms.proofs.inner.Note.lowered.Lts as lts
 
--- src/inner.rt:17:5
 returns : tie.Need-returns
-returns c = ?
+unfolding lowered
+returns c = rw (c .if1 .taken)
 
--- src/inner.rt:17:5
 returns-2 : tie.Need-returns-2
-returns-2 c = ?
+unfolding lowered
+returns-2 c = rw (c .if1 .left)
 
 pub lowered-spec : {M : Type 1} → statement M
 lowered-spec = tie.close (tie.spec returns returns-2)
