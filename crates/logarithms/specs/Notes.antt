@@ -5,6 +5,7 @@ use Prim.Native.Nat.{ℕ}
 use lib.Ieee.{Float, lt}
 use Rattle.logarithms.specs.declared.inner.Note.{Note}
 
+-- the note of an entropy, a noise word and a weighted count
 abbrev pub note : Float → ℕ → ℕ → Note
 note entropy noise count = record { entropy = entropy; noise = noise; count = count }
 

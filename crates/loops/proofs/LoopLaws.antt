@@ -36,6 +36,12 @@ module _ {S : Type 0} (f : ℕ → S → S) (end : ℕ) {R : S} where
       let n : end - i ≡ 0 = omega arith in
       rw n at inv
 
+-- what each step keeps, all keep
+pub steps-keep : {S : Type 0} (P : S → Type 0) (f : ℕ → S → S) (i count : ℕ) {s : S} → ((j : ℕ) (t : S) → j < i + count → P t → P (f j t)) → P s → P (steps f i count s)
+unfolding steps
+steps-keep P f i zero {s} h p = p
+steps-keep P f i (suc count) {s} h p = steps-keep P f (suc i) count (λ j t l. h j t (omega arith)) (h i s (omega arith) p)
+
 module _ {S : Type 0} (done : S → Bool) (f : S → S) {R : S} where
   pub until-turn : {k k′ : ℕ} {s s′ : S} → done s ≡ false → k ≡ suc k′ → s′ ≡ f s → until done f k s ≡ R → until done f k′ s′ ≡ R
   unfolding until

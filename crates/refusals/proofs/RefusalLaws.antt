@@ -95,6 +95,20 @@ pub first-empty : firstOf [] ≡ 0
 unfolding firstOf
 first-empty = refl
 
+-- no test holds
+abbrev pub Passed : List Test → Type 0
+Passed [] = Unit {0}
+Passed (t ∷ ts) = (t .holds ≡ false) × Passed ts
+
+-- nothing is refused exactly where no test holds
+pub first-passed : (ts : List Test) → firstOf ts ≡ 0 → Passed ts
+first-passed [] e = tt
+first-passed (t ∷ ts) e = let (h, rest) = first-none t ts e in (h, first-passed ts rest)
+
+pub passed-first : (ts : List Test) → Passed ts → firstOf ts ≡ 0
+passed-first [] h = first-empty
+passed-first (t ∷ ts) (h, rest) = first-next t ts h ∙ passed-first ts rest
+
 -- ---- an answer or a refusal
 
 module _ {A : Type 0} (ts : List Test) (x : A) where

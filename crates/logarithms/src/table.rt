@@ -1,4 +1,8 @@
-const LOGS: [f32; 1024] = [
+// The table of logarithms, written by tools/gen_logs.py: `f32::log2` of 1 to 1,024 as rustc 1.95.0 with glibc 2.36
+// computes it on x86_64-unknown-linux-gnu, and the same on aarch64-unknown-linux-gnu (docs/LOGARITHMS.md).
+
+// Entry n - 1 is the logarithm of n.
+pub const LOGS: [f32; 1024] = [
     0.0,
     1.0,
     1.5849625,

@@ -1,0 +1,139 @@
+// Logarithms, entropy and notes, for the crates above.
+ghost use mathlib.Core.Path.{_≡_};
+ghost use Prim.Native.Nat.{_≤_};
+ghost use Rattle.adjacency.specs.Weights.{Bounded, wholeWeight};
+ghost use Rattle.refusals.specs.Refusals.{numberOf};
+ghost use Rattle.logarithms.specs.Logs.{logOf};
+ghost use Rattle.logarithms.specs.Entropy.{wLogW, plus, minus, running, less, entropy};
+ghost use Rattle.logarithms.specs.Notes.{lowered};
+ghost use Rattle.logarithms.specs.Asked.{domainRefusal};
+use crate::table::LOGS;
+use refusals::Refusal;
+use refusals::Verdict;
+
+// ---- logarithms
+
+// The logarithm of n, from the table.
+pub fn log2(n: usize) -> f32
+    requires { ⌜ (1 ≤ n) × (n ≤ 1024) ⌝ }
+    ensures { λ r. ⌜ r ≡ logOf n ⌝ }
+{
+    LOGS[n - 1]
+}
+
+// w log w, of a weight that is not 0.
+pub fn w_log_w(weight: u32) -> f32
+    requires { ⌜ (1 ≤ weight) × (weight ≤ 1024) ⌝ }
+    ensures { λ r. ⌜ r ≡ wLogW weight ⌝ }
+{
+    (weight as f32) * log2(weight as usize)
+}
+
+// ---- running values
+
+// What a pattern adds to the running value; a weight of 0 adds nothing.
+fn added(value: f32, weight: u32) -> f32
+    requires { ⌜ weight ≤ 1024 ⌝ }
+    ensures { λ r. ⌜ r ≡ plus value weight ⌝ }
+{
+    if weight == 0 {
+        return value;
+    }
+    value + w_log_w(weight)
+}
+
+// What a removal leaves of the running value; a weight of 0 takes nothing away.
+pub fn removed(value: f32, weight: u32) -> f32
+    requires { ⌜ weight ≤ 1024 ⌝ }
+    ensures { λ r. ⌜ r ≡ minus value weight ⌝ }
+{
+    if weight == 0 {
+        return value;
+    }
+    value - w_log_w(weight)
+}
+
+// The running value of all patterns, summed upward.
+pub fn running(weights: &[u32]) -> f32
+    requires { ⌜ wholeWeight (now weights) ≤ 1024 ⌝ }
+    ensures { λ r. ⌜ r ≡ running (now (weights .entry)) ⌝ }
+{
+    let mut value: f32 = 0.0;
+    let mut p = 0;
+    while p < weights.len() {
+        value = added(value, weights[p]);
+        p += 1;
+    }
+    value
+}
+
+// The running value less the patterns that the word lacks, taken away upward.
+pub fn less(weights: &[u32], word: u64) -> f32
+    requires { ⌜ Bounded (now weights) word ⌝ }
+    ensures { λ r. ⌜ r ≡ less (now (weights .entry)) word ⌝ }
+{
+    let mut value = running(weights);
+    let mut p = 0;
+    while p < weights.len() {
+        if !words::inner::has_pattern(word, p) {
+            value = removed(value, weights[p]);
+        }
+        p += 1;
+    }
+    value
+}
+
+// ---- entropy
+
+// The entropy of a weight sum that is not 0 and a running value.
+pub fn entropy_from(sum: u32, value: f32) -> f32
+    requires { ⌜ (1 ≤ sum) × (sum ≤ 1024) ⌝ }
+    ensures { λ r. ⌜ r ≡ entropy sum value ⌝ }
+{
+    log2(sum as usize) - value / (sum as f32)
+}
+
+// Whether a domain may be asked about apart from a run.
+pub fn check_domain(count: usize, weights: &[u32], domain: u64) -> Verdict
+    ensures { λ r. ⌜ numberOf r ≡ domainRefusal count (now (weights .entry)) domain ⌝ }
+{
+    if adjacency::inner::bad_count(count) {
+        return Verdict::Refused(Refusal::BadCount);
+    }
+    if weights.len() != count {
+        return Verdict::Refused(Refusal::BadLength);
+    }
+    if adjacency::inner::over_weight(weights) {
+        return Verdict::Refused(Refusal::BadWeights);
+    }
+    if words::inner::beyond_count(domain, count) {
+        return Verdict::Refused(Refusal::BadPattern);
+    }
+    Verdict::Accepted
+}
+
+// ---- notes
+
+// What is noted of a cell: an entropy, a noise word and a weighted count.
+pub struct Note {
+    pub entropy: f32,
+    pub noise: u32,
+    pub count: u32,
+}
+
+impl Note {
+    // The note after a later entropy with its count, which replace the noted ones only if the entropy is strictly less.
+    pub fn lowered(self, entropy: f32, count: u32) -> Note
+        ensures { λ r. ⌜ r ≡ lowered self entropy count ⌝ }
+    {
+        if entropy < self.entropy {
+            Note {
+                entropy: entropy,
+                noise: self.noise,
+                count: count,
+            }
+        } else {
+            self
+        }
+    }
+}

@@ -1,0 +1,5 @@
+pub mod RankLaws
+pub mod OrderLaws
+pub mod BeatLaws
+pub mod NumberLaws
+pub mod ListLaws
