@@ -10,7 +10,7 @@ use Rattle.directions.specs.Directions.{opposite}
 use Rattle.adjacency.specs.Tables.{Table, listOf}
 use Rattle.grid.specs.Grid.{Grid, cells}
 use Rattle.consistency.specs.Domains.{filled}
-use Rattle.consistency.specs.Worklist.{Removal, removal, State, forbids, propagated}
+use Rattle.consistency.specs.Worklist.{Removal, removal, State, state, forbids, propagated}
 
 -- f i, f (i + 1), .. , n of them
 unfoldable pub tabulated : ℕ → ℕ → (ℕ → ℕ) → List ℕ
@@ -25,8 +25,7 @@ startCounts t n = tabulated 0 (n * t .count * 4) (λ i. length (listOf t (i / 4 
 -- all full, nothing pending
 unfoldable pub start : (t : Table) (g : Grid) {X : Type 0} → X → State X
 unfolding startCounts
-start t g x =
-    record { counts = startCounts t (cells g); domains = filled (t .count) (cells g); pending = []; empty = false; beside = x }
+start t g x = state (startCounts t (cells g)) (filled (t .count) (cells g)) [] false x
 
 -- the patterns that a word lacks, of the n from i on, ascending, as removals at cell c
 unfoldable pub gaps : ℕ → ℕ → ℕ → ℕ → List Removal

@@ -37,6 +37,13 @@ pub record State (X : Type 0) : Type 0 where
   pub empty : Bool
   pub beside : X
 
+abbrev pub state : {X : Type 0} → List ℕ → List ℕ → List Removal → Bool → X → State X
+state counts domains pending empty beside = record { counts = counts; domains = domains; pending = pending; empty = empty; beside = beside }
+
+-- the state with `us` left of what is pending
+abbrev pub popped : {X : Type 0} → List Removal → State X → State X
+popped us s = state (s .counts) (s .domains) us (s .empty) (s .beside)
+
 -- over the number P of patterns, and what a removal changes beside the domains
 module _ (P : ℕ) {X : Type 0} (keep : Removal → List ℕ → X → X) where
   -- a pattern goes: its four supports are cleared, its bit is, and the removal is pending; an emptied cell is never overlooked
@@ -55,8 +62,7 @@ module _ (P : ℕ) {X : Type 0} (keep : Removal → List ℕ → X → X) where
   unfolding remove
   decrementAt n d q zero s = s
   decrementAt n d q (suc zero) s = remove (removal n q) s
-  decrementAt n d q (suc (suc count)) s =
-      record { counts = set (s .counts) (place P n q d) (suc count); domains = s .domains; pending = s .pending; empty = s .empty; beside = s .beside }
+  decrementAt n d q (suc (suc count)) s = state (set (s .counts) (place P n q d) (suc count)) (s .domains) (s .pending) (s .empty) (s .beside)
 
   unfoldable pub decrement : ℕ → ℕ → ℕ → State X → State X
   unfolding decrementAt
@@ -101,10 +107,6 @@ module _ (t : Table) (g : Grid) {X : Type 0} (keep : Removal → List ℕ → X 
   unfoldable pub spread : Removal → State X → State X
   unfolding spreadIn
   spread u s = spreadIn u 3 (spreadIn u 2 (spreadIn u 1 (spreadIn u 0 s)))
-
-  -- the state with the last removal taken off what is pending
-  abbrev pub popped : List Removal → State X → State X
-  popped us s = record { counts = s .counts; domains = s .domains; pending = us; empty = s .empty; beside = s .beside }
 
   -- pop and spread until nothing is pending or a cell is empty, `fuel` times at most
   unfoldable pub propagate : ℕ → State X → State X
