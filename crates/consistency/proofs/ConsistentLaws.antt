@@ -34,7 +34,7 @@ module _ (t : Table) (g : Grid) (A : Accepted t) where
     consistent-supported C n q d hn hq hd h = go (neighbour g n (opposite d)) refl
       where
         go : (o : Option ℕ) → neighbour g n (opposite d) ≡ o → 0 < supportsBy (netOf t g) o (possible D) n q d
-        go none e = A .filled q (opposite d) hq (opposite-below d hd)
+        go none e = A .listed .filled q (opposite d) hq (opposite-below d hd)
         go (some m) e =
             let (r, i, k) = C n q (opposite d) m (opposite-below d hd) h e in
             let hr = pattern-below F m r k in
@@ -73,13 +73,13 @@ module _ (t : Table) (g : Grid) (A : Accepted t) where
           once (possible (filled (t .count) (cells g)) m r) (times q (listOf t r d))
           (possible-filled (t .count) (cells g) m r (neighbour-inside g n (opposite d) m hn (opposite-below d hd) e) hr)
           ∙ times-agree t A r q d hr hq hd)
-          ∙ times-sum (t .count) (listOf t q (opposite d)) (A .below q (opposite d) hq (opposite-below d hd))
+          ∙ times-sum (t .count) (listOf t q (opposite d)) (A .listed .below q (opposite d) hq (opposite-below d hd))
 
   -- every list is non-empty, so full domains are consistent
   pub full-consistent : Consistent t g (filled (t .count) (cells g))
   full-consistent =
       supported-consistent (filled (t .count) (cells g)) (fit-filled (t .count) (cells g))
-      (λ n q d hn hq hd _. omega (arith, supports-filled n q d hn hq hd, A .filled q (opposite d) hq (opposite-below d hd)))
+      (λ n q d hn hq hd _. omega (arith, supports-filled n q d hn hq hd, A .listed .filled q (opposite d) hq (opposite-below d hd)))
 
 -- consistent domains violate no list where a neighbour has one pattern only
 pub one-each : (t : Table) (g : Grid) (D : List ℕ) → Consistent t g D → (c p d n q : ℕ) → d < 4 → neighbour g c d ≡ some n → possible D c p ≡ 1

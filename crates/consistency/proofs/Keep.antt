@@ -177,7 +177,7 @@ module _ (t : Table) (g : Grid) (A : Accepted t) {X : Type 0} (keep : Removal �
   unfolding spreadIn
   safe-spreadIn M u d s hc hp hd S =
       safe-toward (t .count) (cells g) M keep (neighbour g (u .cell) d) d (listOf t (u .pattern) d) s (λ c. neighbour-inside g (u .cell) d c hc hd) hd
-      (A .below (u .pattern) d hp hd) S
+      (A .listed .below (u .pattern) d hp hd) S
 
   pub safe-spread : (M : ℕ) (u : Removal) (s : State X) → u .cell < cells g → u .pattern < t .count
       → Safe (t .count) (cells g) M s → Safe (t .count) (cells g) M (spread t g keep u s)

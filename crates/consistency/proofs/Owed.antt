@@ -114,13 +114,13 @@ module _ (t : Table) (g : Grid) (A : Accepted t) (u : Removal) (hc : u .cell < c
         | yes z ↦
             omega (
               arith,
-              due-at (t .count) m d n q d hd hq hd rest z refl (listOf t (u .pattern) d) (A .below (u .pattern) d hp hd),
+              due-at (t .count) m d n q d hd hq hd rest z refl (listOf t (u .pattern) d) (A .listed .below (u .pattern) d hp hd),
               gives-yes (netOf t g) (u .cell) (u .pattern) n q d (neighbour-opposite g (u .cell) d n hc hd hn .0 (rw z e)),
             )
         | no z ↦
             omega (
               arith,
-              due-off (t .count) m d n q d hd hq hd rest (λ k _. z k) (listOf t (u .pattern) d) (A .below (u .pattern) d hp hd),
+              due-off (t .count) m d n q d hd hq hd rest (λ k _. z k) (listOf t (u .pattern) d) (A .listed .below (u .pattern) d hp hd),
               gives-no (netOf t g) (u .cell) (u .pattern) n q d (λ k. z (cc (neighbour-opposite g (u .cell) d n hc hd hn .1 k))),
             )
       ]
@@ -133,7 +133,7 @@ module _ (t : Table) (g : Grid) (A : Accepted t) (u : Removal) (hc : u .cell < c
         | yes z ↦ rw (eq-eqb e d z, z) (to-at d hd (neighbour g (u .cell) d) refl rest)
         | no z ↦
             rw (ne-eqb e d z)
-            (omega (arith, to-off (t .count) (neighbour g (u .cell) d) d (listOf t (u .pattern) d) rest n q e hd hq he z (A .below (u .pattern) d hp hd)))
+            (omega (arith, to-off (t .count) (neighbour g (u .cell) d) d (listOf t (u .pattern) d) rest n q e hd hq he z (A .listed .below (u .pattern) d hp hd)))
       ]
 
   -- in all four directions a removal is to take what its pattern gave

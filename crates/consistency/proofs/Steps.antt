@@ -157,7 +157,7 @@ module _ (t : Table) (g : Grid) {X : Type 0} (keep : Removal → List ℕ → X 
         unfolding spreadIn
         kept-spreadIn d hd s rest K =
             kept-toward s rest (neighbour g (u .cell) d) d (listOf t (u .pattern) d) (λ n. neighbour-inside g (u .cell) d n hc hd) hd
-            (A .below (u .pattern) d hp hd) K
+            (A .listed .below (u .pattern) d hp hd) K
 
         -- a removal spreads: all that it is to take is taken
         pub kept-spread : (s : State X) (rest : Due) → Kept t g H D M s (dueOf t g u rest) → Kept t g H D M (spread t g keep u s) rest
