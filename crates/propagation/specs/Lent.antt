@@ -31,12 +31,16 @@ pub record Lent (P n : ℕ) (domains counts pending : List ℕ) (pile : Pile) : 
   pub safe : Safe P n (n * P) (stateOf P domains counts pending pile (tt {0}))
   pub tall : length pending ≡ n * P
 
--- what the weights, the noise and what is kept beside must be: there is room for what is kept wherever a pattern has weight
+-- there is room for what is kept beside wherever a pattern has weight
+pub record Roomy (n : ℕ) (noise : List ℕ) (floats : List Float) (marks : List ℕ) : Type 0 where
+  pub heard : length noise ≡ n
+  pub valued : length floats ≡ 2 * n
+  pub marked : 2 * n ≤ length marks
+
+-- what the weights, the noise and what is kept beside must be
 pub record Room (P n : ℕ) (weights noise : List ℕ) (floats : List Float) (marks : List ℕ) : Type 0 where
   pub weighed : Weighed P weights
-  pub noise : (p : ℕ) → weighted weights p ≡ true → length noise ≡ n
-  pub floats : (p : ℕ) → weighted weights p ≡ true → length floats ≡ 2 * n
-  pub marks : (p : ℕ) → weighted weights p ≡ true → 2 * n ≤ length marks
+  pub roomy : (p : ℕ) → weighted weights p ≡ true → Roomy n noise floats marks
 
 -- the table and the grid that a propagation reads
 pub record Ground (t : Table) (g : Grid) (n : ℕ) : Type 0 where

@@ -33,7 +33,7 @@ reducedFrom t g D = reduced t g nothing tt (missing (t .count) 0 D)
 unfoldable pub badLengths : Table → Grid → List ℕ → List ℕ → List ℕ → Bool
 unfolding badOffsets
 badLengths t g domains counts pending =
-    badOffsets t || not (eqb (length domains) (cells g)) || not (eqb (length counts) (cells g * t .count * 4)) || not (eqb (length pending) (cells g * t .count))
+    badOffsets (t .count) (t .offsets) || not (eqb (length domains) (cells g)) || not (eqb (length counts) (cells g * t .count * 4)) || not (eqb (length pending) (cells g * t .count))
 
 -- some starting domain has a pattern of P or more
 unfoldable pub badDomains : ℕ → List ℕ → Bool
@@ -43,7 +43,7 @@ badDomains P domains = not (every (λ w. not (beyond P w)) domains)
 -- 3, 1, 2, 5, 6, 7, 9
 abbrev pub propagateTests : Table → Grid → List ℕ → List ℕ → List ℕ → List Test
 propagateTests t g domains counts pending =
-    (badCount (t .count) gives BadCount) ∷ (badSize g gives BadSize) ∷ (badWrap g gives BadWrap) ∷ (badLengths t g domains counts pending gives BadLength)
+    (badCount (t .count) gives BadCount) ∷ (badSize (g .width) (g .height) gives BadSize) ∷ (badWrap (g .mode) gives BadWrap) ∷ (badLengths t g domains counts pending gives BadLength)
     ∷ (badList t gives BadList) ∷ (disagree t gives Disagree) ∷ (badDomains (t .count) domains gives BadPattern) ∷ []
 
 -- ---- the outcome

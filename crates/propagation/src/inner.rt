@@ -1,11 +1,12 @@
 // What the run calls: the removal of a pattern, and the propagation of what is pending.
 // Follows docs/RULES.md, "Propagation"; stands for `Propagator` and `WaveCell` of the Rust.
+ghost use mathlib.Core.Bool.{true};
 ghost use mathlib.Core.Path.{_≡_};
 ghost use mathlib.Core.List.{List};
 ghost use Prim.Native.Nat.{ℕ, _*_, _≤_, _<_};
 ghost use lib.ListN.{length};
 ghost use Rattle.adjacency.specs.Tables.{table};
-ghost use Rattle.adjacency.specs.Weights.{mask};
+ghost use Rattle.adjacency.specs.Weights.{Weighed, weighted};
 ghost use Rattle.grid.specs.Grid.{grid};
 ghost use Rattle.consistency.specs.Domains.{possible};
 ghost use Rattle.consistency.specs.Worklist.{removal};
@@ -39,7 +40,7 @@ pub fn remove(
     pile: Pile,
 ) -> Pile
     requires { ⌜ Lent count (length (now domains)) (now domains) (now counts) (now pending) pile ⌝ }
-    requires { ⌜ Kept count (length (now domains)) (now weights) (now floats) ⌝ }
+    requires { ⌜ Weighed count (now weights) × ((p : ℕ) → weighted (now weights) p ≡ true → length (now floats) ≡ 2 * length (now domains)) ⌝ }
     requires { ⌜ (cell < length (now domains)) × (pattern < count) × (possible (now domains) cell pattern ≡ 1) ⌝ }
     ensures { λ r. ⌜ ((marks : List ℕ) → stateOf count (now (domains .exit)) (now (counts .exit)) (now (pending .exit)) r (beside (now (floats .exit)) marks)
         ≡ worklist.remove count (lessened (now (weights .entry))) (removal cell pattern)
