@@ -1,2 +1,4 @@
 pub mod WeightLaws
 pub mod ListLaws
+pub mod AcceptedLaws
+pub mod LookupLaws

@@ -89,22 +89,34 @@ climbs f (suc n) h i k =
       | no e ↦ omega (arith, climbs f n (λ j l. h j (omega arith)) i (omega arith), h n (le-refl (suc n)), ap f (add-one n))
     ]
 
-module _ (t : Table) (long : length (t .offsets) ≡ 4 * t .count + 1) where
-  pub laid : offsetsOk t ≡ true → Laid t
+module _ (t : Table) where
+  -- the three tests of the offsets
+  offset-tests : offsetsOk t ≡ true → (getD (t .offsets) 0 0 ≡ 0) × (allTo (4 * t .count) (risesAt (t .offsets)) ≡ true) × (getD (t .offsets) (4 * t .count) 0 ≡ length (t .ids))
   unfolding offsetsOk
-  laid ok =
-      let first = eqb (getD (t .offsets) 0 0) 0 in
+  offset-tests ok =
       let rises = allTo (4 * t .count) (risesAt (t .offsets)) in
       let last = eqb (getD (t .offsets) (4 * t .count) 0) (length (t .ids)) in
-      let (rise, end) = both rises last (both first (rises && last) ok .1) in
-      let total : getD (t .offsets) (4 * t .count) 0 ≡ length (t .ids) = eqb-true _ _ end in
-      let step : (k : ℕ) → k < 4 * t .count → getD (t .offsets) k 0 ≤ getD (t .offsets) (k + 1) 0 =
-      λ k h. leb→le _ _ (all-at (risesAt (t .offsets)) (4 * t .count) (T-true rise) k h) in
-      record { long = long; rising = step; ends = λ k h. omega (arith, climbs (λ i. getD (t .offsets) i 0) (4 * t .count) step k h) }
+      let (a, rest) = both (eqb (getD (t .offsets) 0 0) 0) (rises && last) ok in
+      let (b, c) = both rises last rest in
+      (eqb-true _ _ a, b, eqb-true _ _ c)
 
-  pub listed : badList t ≡ false → Listed t
+  pub laid : length (t .offsets) ≡ 4 * t .count + 1 → offsetsOk t ≡ true → Laid t
+  laid long ok = record { long = long; rising = step; ends = λ k h. omega (arith, climbs (λ i. getD (t .offsets) i 0) (4 * t .count) step k h, offset-tests ok .2) }
+    where
+      step : (k : ℕ) → k < 4 * t .count → getD (t .offsets) k 0 ≤ getD (t .offsets) (k + 1) 0
+      step k h = leb→le _ _ (all-at (risesAt (t .offsets)) (4 * t .count) (T-true (offset-tests ok .1)) k h)
+
+  pub listed : length (t .offsets) ≡ 4 * t .count + 1 → badList t ≡ false → Listed t
   unfolding badList listsOk listOf
-  listed ok = record { laid = laid (parts .0); filled = λ p d hp hd. at p d hp hd .0; ascends = λ p d hp hd. at p d hp hd .1 .0; below = λ p d hp hd. at p d hp hd .1 .1 }
+  listed long ok =
+      record {
+        first = offset-tests (parts .0) .0;
+        last = offset-tests (parts .0) .2;
+        laid = laid long (parts .0);
+        filled = λ p d hp hd. at p d hp hd .0;
+        ascends = λ p d hp hd. at p d hp hd .1 .0;
+        below = λ p d hp hd. at p d hp hd .1 .1;
+      }
     where
       parts : (offsetsOk t ≡ true) × (listsOk t ≡ true)
       parts = both _ _ (not-false _ ok)

@@ -272,6 +272,6 @@ module _ (t : Table) (g : Grid) (A : Accepted t) {X : Type 0} (keep : Removal �
     propagate-step M h S u us e z =
         subst₂
         (λ (l : List Removal) (b : Bool). Safe (t .count) (cells g) M (state (s .counts) (s .domains) l b (s .beside))
-          → propagate t g keep f (state (s .counts) (s .domains) l b (s .beside))
-          ≡ propagate t g keep f (spread t g keep u (state (s .counts) (s .domains) us b (s .beside))))
+        → propagate t g keep f (state (s .counts) (s .domains) l b (s .beside))
+        ≡ propagate t g keep f (spread t g keep u (state (s .counts) (s .domains) us b (s .beside))))
         (sym e) (sym z) (one-turn M f h (s .counts) (s .domains) u us (s .beside)) S

@@ -6,3 +6,11 @@ pub mod Keep
 pub mod Steps
 pub mod ConsistentLaws
 pub mod Settled
+pub mod RemovalLaws
+pub mod LessenedLaws
+pub mod GreatestLaws
+pub mod StartLaws
+pub mod SettledLaws
+pub mod Given
+pub mod Parts
+pub mod Cases

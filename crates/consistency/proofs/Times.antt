@@ -83,7 +83,7 @@ pub times-agree : (t : Table) → Accepted t → (p q d : ℕ) → p < t .count 
 times-agree t A p q d hp hq hd =
     let there = times-le p q (listOf t p d) (listOf t q (opposite d)) (A .listed .ascends p d hp hd) (A .agree p q d hp hd) in
     let back =
-        times-le q p (listOf t q (opposite d)) (listOf t p (opposite (opposite d))) (A .listed .ascends q (opposite d) hq (opposite-below d hd))
-        (A .agree q p (opposite d) hq (opposite-below d hd))
+    times-le q p (listOf t q (opposite d)) (listOf t p (opposite (opposite d))) (A .listed .ascends q (opposite d) hq (opposite-below d hd))
+    (A .agree q p (opposite d) hq (opposite-below d hd))
     in
     omega (arith, there, subst (λ (e : ℕ). times p (listOf t q (opposite d)) ≤ times q (listOf t p e)) (opposite-opposite d hd) back)
