@@ -6,7 +6,7 @@ use mathlib.Core.List.{[]}
 use mathlib.Core.Path.{_≡_, sym, _∙_}
 use Prim.Native.Nat.{ℕ, _<_}
 use native.Mathlib.Omega.{arith}
-use borrow.Author.Tests.{leb-false, ltb-false, eq-eqb, ne-eqb}
+use borrow.Author.Tests.{leb-false, ltb-false, eq-eqb, ne-eqb, le-ltb, lt-leb}
 use Rattle.directions.specs.Directions.{badDirection}
 use Rattle.refusals.specs.declared.Refusal.{Refusal}
 use Rattle.refusals.specs.Refusals.{number}
@@ -15,7 +15,7 @@ use Rattle.adjacency.specs.Checks.{badCount, badOffsets, badList, disagr
 use Rattle.adjacency.specs.Lookup.{badPattern, listTests, listRefusal, listAnswer}
 use Rattle.adjacency.specs.Accepted.{Accepted}
 use Rattle.refusals.proofs.RefusalLaws.{first-passed, number-positive}
-use Rattle.adjacency.proofs.AcceptedLaws.{accepted-by}
+use Rattle.adjacency.proofs.AcceptedLaws.{accepted-by, accepted-complete}
 
 module _ (t : Table) (p d : ℕ) where
   -- for each end of `list_refusal`
@@ -31,6 +31,12 @@ module _ (t : Table) (p d : ℕ) where
   answered e =
       let (a, (b, (c, (f, (direction, (pattern, _)))))) = first-passed (listTests t p d) e in
       (accepted-by t a b c f, leb-false _ _ pattern, omega (arith, ltb-false 3 d direction))
+
+  pub answers : Accepted t → p < t .count → d < 4 → listRefusal t p d ≡ 0
+  unfolding badDirection badPattern
+  answers ok hp hd =
+      let (a, b, c, e) = accepted-complete t ok in
+      listRefusal-is a b c e (le-ltb 3 d (omega arith)) (lt-leb (t .count) p hp)
 
   pub listAnswer-list : listRefusal t p d ≡ 0 → listAnswer t p d ≡ listOf t p d
   unfolding listAnswer
