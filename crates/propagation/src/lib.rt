@@ -4,6 +4,7 @@
 use refusals::Refusal;
 
 pub mod inner;
+mod given;
 mod notes;
 mod num_ways;
 
