@@ -1,2 +1,3 @@
 pub mod CountLaws
 pub mod GivenLaws
+pub mod CheckLaws

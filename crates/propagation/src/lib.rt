@@ -4,6 +4,7 @@
 use refusals::Refusal;
 
 pub mod inner;
+mod check;
 mod given;
 mod notes;
 mod num_ways;
