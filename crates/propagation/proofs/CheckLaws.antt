@@ -5,6 +5,7 @@ use mathlib.Core.Bool.{Bool, true, false, not, cond, _||_}
 use mathlib.Core.List.{List}
 use Prim.Native.Nat.{ℕ, _*_, _^_, _≤_, _<_}
 use native.Mathlib.Decide.{decLt}
+use native.Mathlib.Nat.{mul-pos}
 use native.Mathlib.Omega.{arith}
 use lib.Dec.{T, eqb}
 use lib.ListN.{length, getD, List·getD-eq-default}
@@ -69,6 +70,7 @@ not-refused t g D counts pending e =
       record {
         some = some;
         patterns = few;
+        one = omega (arith, mul-pos (S .tall) (S .wide));
         cells = omega (arith, S .few);
         fit = domains-fit (t .count) D domains;
         counted = rw all counts-long;

@@ -1,3 +1,5 @@
 pub mod CountLaws
 pub mod GivenLaws
 pub mod CheckLaws
+pub mod SettleLaws
+pub mod OutcomeLaws

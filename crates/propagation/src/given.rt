@@ -5,13 +5,17 @@ ghost use mathlib.Core.Path.{_≡_};
 ghost use Prim.Native.Nat.{_+_, _^_, _≤_, _<_};
 ghost use lib.ListN.{length};
 ghost use Rattle.words.specs.Words.{has};
+ghost use Rattle.adjacency.specs.Tables.{table};
+ghost use Rattle.adjacency.specs.Accepted.{Accepted};
 ghost use Rattle.consistency.specs.Domains.{emptied};
 ghost use Rattle.consistency.specs.Worklist.{removal};
 ghost use Rattle.consistency.specs.Start.{failing, missing};
 ghost use Rattle.consistency.specs.Withdrawn.{work, withdrawn};
 ghost use Rattle.consistency.specs.Withdrawn as meaning;
-ghost use Rattle.propagation.specs.Lent.{pendingOf};
-ghost use Rattle.propagation.specs.Given.{Given, Spacious};
+ghost use Rattle.propagation.specs.Lent.{pendingOf, stateOf};
+ghost use Rattle.propagation.specs.Given.{Given, Spacious, givenState};
+use crate::inner::Pile;
+use crate::inner::start::start_counts;
 use words::inner::lacked_patterns;
 use words::inner::next_pattern;
 use words::inner::without_pattern;
@@ -66,7 +70,7 @@ fn lack_at(
 }
 
 // All that the starting domains lack, cell by cell; the height of the pile.
-pub(crate) fn lack(
+fn lack(
     count: usize,
     domains: &[u64],
     counts: &mut [u8],
@@ -86,7 +90,7 @@ pub(crate) fn lack(
 }
 
 // Whether a cell is empty.
-pub(crate) fn any_empty(domains: &[u64]) -> bool
+fn any_empty(domains: &[u64]) -> bool
     ensures { λ r. ⌜ r ≡ emptied (now (domains .entry)) ⌝ }
 {
     let mut cell = 0;
@@ -97,4 +101,25 @@ pub(crate) fn any_empty(domains: &[u64]) -> bool
         cell += 1;
     }
     false
+}
+
+// Where the propagation of starting domains begins.
+pub(crate) fn begin(
+    count: usize,
+    offsets: &[u32],
+    ids: &[u8],
+    domains: &[u64],
+    counts: &mut [u8],
+    pending: &mut [u32],
+) -> Pile
+    requires { ⌜ Accepted (table count (now offsets) (now ids)) × Given count (now domains) (now counts) (now pending) ⌝ }
+    ensures { λ r. ⌜ stateOf count (now (domains .entry)) (now (counts .exit)) (now (pending .exit)) r (tt {0})
+        ≡ givenState (table count (now (offsets .entry)) (now (ids .entry))) (now (domains .entry)) ⌝ }
+{
+    start_counts(count, offsets, ids, counts);
+    let top = lack(count, domains, counts, pending);
+    Pile {
+        top: top,
+        empty: any_empty(domains),
+    }
 }
