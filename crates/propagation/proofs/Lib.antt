@@ -3,3 +3,4 @@ pub mod GivenLaws
 pub mod CheckLaws
 pub mod SettleLaws
 pub mod OutcomeLaws
+pub mod PropagateLaws
