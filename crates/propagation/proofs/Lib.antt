@@ -4,3 +4,4 @@ pub mod CheckLaws
 pub mod SettleLaws
 pub mod OutcomeLaws
 pub mod PropagateLaws
+pub mod Cases

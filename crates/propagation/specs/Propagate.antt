@@ -51,7 +51,7 @@ propagateTests t g domains counts pending =
 
 -- the number of the first refusal, 0 where the domains are propagated
 unfoldable pub propagateRefusal : Table → Grid → List ℕ → ℕ → ℕ → ℕ
-unfolding firstOf
+unfolding firstOf badCount badSize badWrap badLengths badList disagree badDomains
 propagateRefusal t g domains counts pending = firstOf (propagateTests t g domains counts pending)
 
 -- ---- the outcome

@@ -27,7 +27,8 @@ fn first_counts(count: usize, offsets: &[u32], ids: &[u8], counts: &mut [u8])
 {
     let mut i = 0;
     while i < 4 * count {
-        let list = adjacency::inner::list_of(count, offsets, ids, i / 4, opposite_of(i % 4));
+        let back = opposite_of(i % 4);
+        let list = adjacency::inner::list_of(count, offsets, ids, i / 4, back);
         counts[i] = narrow(list.len());
         i += 1;
     }
