@@ -52,10 +52,7 @@ pub fn remove(
     domains[cell] = word;
     let top = pile.top;
     pending[top] = narrow(slot);
-    let weight = weights[pattern];
-    if weight != 0 {
-        floats[cell] = logarithms::inner::removed(floats[cell], weight);
-    }
+    crate::notes::lessen(count, weights, cell, pattern, floats);
     Pile {
         top: top + 1,
         empty: pile.empty || word == 0,
