@@ -1,1 +1,2 @@
 pub mod BesideLaws
+pub mod LentLaws

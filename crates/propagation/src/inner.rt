@@ -55,6 +55,6 @@ pub fn remove(
     crate::notes::lessen(count, weights, cell, pattern, floats);
     Pile {
         top: top + 1,
-        empty: pile.empty || word == 0,
+        empty: pile.empty | (word == 0),
     }
 }

@@ -1,0 +1,99 @@
+-- Laws of the lent slices of a propagation: what a pile stands for, and that a safe state leaves them as they must be.
+-- Assumes nothing.
+use mathlib.Core.Bool.{Bool, true, false, _||_}
+use mathlib.Core.List.{List, [], _∷_}
+use mathlib.Core.Path.{_≡_, refl, sym, ap, _∙_}
+use Prim.Native.Nat.{ℕ, zero, suc, _+_, _-_, _*_, _/_, _%_, _≤_, _<_}
+use native.Mathlib.Nat.{le-refl}
+use native.Mathlib.Numerals.{add-one}
+use native.Mathlib.Omega.{arith}
+use lib.Arith.{digits-div, digits-mod, digits-lt}
+use lib.Dec.{eqb}
+use lib.Ieee.{Float}
+use lib.ListN.{length, getD, set}
+use lib.Seq.{getD-set-same, getD-set-other}
+use Rattle.words.specs.Words.{without}
+use Rattle.consistency.specs.Domains.{possible, removed}
+use Rattle.consistency.specs.Worklist.{Removal, removal, State, state, place, cleared, remove}
+use Rattle.consistency.specs.Safe.{Safe}
+use Rattle.consistency.proofs.Keep.{removed-less, total-less}
+use Rattle.propagation.specs.declared.inner.Pile.{Pile}
+use Rattle.propagation.specs.Beside.{beside, lessened}
+use Rattle.propagation.specs.Lent.{pendingOf, stateOf, Lent, Room}
+
+-- ---- the pile
+
+pub pending-length : (P : ℕ) (l : List ℕ) (n : ℕ) → length (pendingOf P l n) ≡ n
+unfolding pendingOf
+pending-length P l zero = refl
+pending-length P l (suc n) = ap suc (pending-length P l n)
+
+-- what lies above a pile's height is not read
+pending-set : (P : ℕ) (l : List ℕ) (i v n : ℕ) → n ≤ i → pendingOf P (set l i v) n ≡ pendingOf P l n
+unfolding pendingOf
+pending-set P l i v zero h = refl
+pending-set P l i v (suc n) h = rw (getD-set-other l i n v 0 (omega arith), pending-set P l i v n (omega arith))
+
+-- a removal that is put on the pile is read back
+pub pending-push : (P : ℕ) (l : List ℕ) (n c p : ℕ) → p < P → n < length l → pendingOf P (set l n (c * P + p)) (n + 1) ≡ removal c p ∷ pendingOf P l n
+unfolding pendingOf
+pending-push P l n c p hp h =
+    rw (add-one, getD-set-same l n (c * P + p) 0 h, digits-div c hp, digits-mod c hp, pending-set P l n (c * P + p) n (le-refl n))
+
+-- ---- what is safe does not depend on what is kept beside
+
+pub safe-beside : {P n M : ℕ} {X Y : Type 0} (s : State X) (y : Y) → Safe P n M s → Safe P n M (state (s .counts) (s .domains) (s .pending) (s .empty) y)
+safe-beside s y S = record { sized = S .sized; fit = S .fit; inside = S .inside; room = S .room; dead = S .dead; told = S .told }
+
+module _ {P n : ℕ} {D C Q : List ℕ} {pile : Pile} (L : Lent P n D C Q pile) where
+  pub lent-safe : {X : Type 0} (x : X) → Safe P n (n * P) (stateOf P D C Q pile x)
+  lent-safe x = safe-beside _ x (L .safe)
+
+  -- a step that is safe and keeps the pile's room leaves the slices as they must be
+  pub lent-after : {D′ C′ Q′ : List ℕ} {r : Pile} {X : Type 0} {x : X} → Safe P n (n * P) (stateOf P D′ C′ Q′ r x) → length Q′ ≡ length Q → Lent P n D′ C′ Q′ r
+  lent-after S e = record { some = L .some; patterns = L .patterns; cells = L .cells; safe = safe-beside _ tt S; tall = e ∙ L .tall }
+
+  -- ---- where a cell's pattern stands
+
+  module _ {c p : ℕ} (hc : c < n) (hp : p < P) where
+    pub slot-small : c * P + p < 65536
+    slot-small = omega (arith, digits-lt {q = c} {m = 1024} {r = p} {c = P} (omega (arith, L .cells)) hp, L .patterns)
+
+    pub place-below : (d : ℕ) → d < 4 → place P c p d < length C
+    place-below d hd = omega (arith, digits-lt (digits-lt {m = n} hc hp) hd, L .safe .sized)
+
+    -- there is room for the removal of a pattern that is possible
+    pub pile-low : possible D c p ≡ 1 → pile .top < length Q
+    pile-low h = omega (arith, L .safe .room, L .tall, pending-length P Q (pile .top), total-less P n D (removed D c p) c p hc hp (removed-less D c p h))
+
+pub room-after : {P n : ℕ} {ws noise marks marks′ : List ℕ} {floats floats′ : List Float} → Room P n ws noise floats marks → length floats′ ≡ length floats
+    → length marks′ ≡ length marks → Room P n ws noise floats′ marks′
+room-after R e k =
+    record {
+      weighed = R .weighed;
+      roomy = λ p h. let r = R .roomy p h in record { heard = r .heard; valued = e ∙ r .valued; marked = rw k (r .marked) };
+    }
+
+-- ---- a pattern goes
+
+module _ (ws D C Q : List ℕ) (pile : Pile) (floats : List Float) (c : ℕ) where
+  -- what the code leaves of the slices is the state without the pattern
+  pub remove-is : {P p word slot : ℕ} {C′ : List ℕ} {floats′ : List Float} → p < P → pile .top < length Q
+      → word ≡ without (getD D c 0) p → C′ ≡ cleared C ((c * P + p) * 4) → slot ≡ c * P + p
+      → ((domains marks : List ℕ) → beside floats′ marks ≡ lessened ws (removal c p) domains (beside floats marks)) → (marks : List ℕ)
+      → stateOf P (set D c word) C′ (set Q (pile .top) slot) (record { top = pile .top + 1; empty = pile .empty || eqb word 0 }) (beside floats′ marks)
+      ≡ remove P (lessened ws) (removal c p) (stateOf P D C Q pile (beside floats marks))
+  unfolding remove
+  remove-is {P} {p} hp low w e k x marks =
+      rw (w, e, k)
+      (λ i.
+      record {
+        counts = ap (cleared C) zero-more i;
+        domains = removed D c p;
+        pending = pending-push P Q (pile .top) c p hp low i;
+        empty = pile .empty || eqb (without (getD D c 0) p) 0;
+        beside = x (removed D c p) marks i;
+      })
+    where
+      zero-more : (c * P + p) * 4 ≡ place P c p 0
+      zero-more = omega arith
