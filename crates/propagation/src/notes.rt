@@ -61,7 +61,15 @@ fn proposed(fresh: u8, old: Note, entropy: f32, count: u32) -> Note
 }
 
 // A cell's proposal of an entropy with its weighted count.
-fn note(noise: &[u32], cells: usize, cell: usize, entropy: f32, weighted: u32, floats: &mut [f32], marks: &mut [u8])
+fn note(
+    noise: &[u32],
+    cells: usize,
+    cell: usize,
+    entropy: f32,
+    weighted: u32,
+    floats: &mut [f32],
+    marks: &mut [u8],
+)
     requires { ⌜ Roomy cells (now noise) (now floats) (now marks) × (cell < cells) × (weighted ≤ 64) ⌝ }
     ensures { λ _. ⌜ beside (now (floats .exit)) (now (marks .exit))
         ≡ meaning.noted (now (noise .entry)) cells cell entropy weighted (beside (now (floats .entry)) (now (marks .entry))) ⌝ }

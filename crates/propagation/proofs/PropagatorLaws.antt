@@ -1,0 +1,80 @@
+-- Laws of the work list's steps on lent slices: the ways through each function, and what each leaves for the next.
+-- Follows docs/RULES.md, "Propagation".
+-- Assumes nothing.
+use mathlib.Core.Bool.{Bool, true, false, cond}
+use mathlib.Core.List.{List}
+use mathlib.Core.Path.{_≡_, refl, sym, ap, subst, _∙_}
+use Prim.Native.Nat.{ℕ, zero, suc, _+_, _-_, _*_, _≤_, _<_}
+use native.Mathlib.Omega.{arith}
+use lib.Dec.{leb, eqb}
+use lib.Ieee.{Float}
+use lib.ListN.{length, getD, set}
+use borrow.Author.Tests.{eqb-true, eqb-false, le-leb}
+use Rattle.consistency.specs.Domains.{possible, Fit}
+use Rattle.consistency.specs.Worklist.{Removal, removal, State, state, place, remove, decrementAt, decrement}
+use Rattle.consistency.specs.Safe.{Safe}
+use Rattle.consistency.proofs.Keep.{counted-possible, safe-remove}
+use Rattle.propagation.specs.declared.inner.Pile.{Pile}
+use Rattle.propagation.specs.Beside.{Beside, lessened, proposing, kept}
+use Rattle.propagation.specs.Supports.{lastWay, loweredAt}
+use Rattle.propagation.specs.Lent.{stateOf, Lent}
+use Rattle.propagation.proofs.LentLaws.{lent-safe}
+
+-- ---- a pattern goes in propagation
+
+module _ {P n : ℕ} {D C Q : List ℕ} {pile : Pile} (L : Lent P n D C Q pile) where
+  pub fit-remove : {X : Type 0} (keep : Removal → List ℕ → X → X) {c p : ℕ} (x : X) {s : State X} → c < n → p < P → possible D c p ≡ 1
+      → s ≡ remove P keep (removal c p) (stateOf P D C Q pile x) → Fit P n (s .domains)
+  fit-remove keep {c} {p} x hc hp h e =
+      subst (λ (z : State _). Safe P n (n * P) z) (sym e) (safe-remove P n (n * P) keep (removal c p) (stateOf P D C Q pile x) hc hp h (lent-safe L x)) .fit
+
+module _ (P : ℕ) (ws noise : List ℕ) (n : ℕ) (u : Removal) where
+  -- a state whose last removal proposes
+  abbrev proposedIn : State Beside → State Beside
+  proposedIn s = state (s .counts) (s .domains) (s .pending) (s .empty) (proposing ws noise n (u .cell) (u .pattern) (getD (s .domains) (u .cell) 0) (s .beside))
+
+  -- a removal in propagation is a removal that then proposes
+  pub remove-kept : (s : State Beside) → remove P (kept ws noise n) u s ≡ proposedIn (remove P (lessened ws) u s)
+  unfolding remove kept
+  remove-kept s = refl
+
+  pub remove-proposed : (s : State Beside) {s′ : State Beside} {m : ℕ} {x : Beside} → s′ ≡ remove P (lessened ws) u s → m ≡ n
+      → x ≡ proposing ws noise m (u .cell) (u .pattern) (getD (s′ .domains) (u .cell) 0) (s′ .beside)
+      → state (s′ .counts) (s′ .domains) (s′ .pending) (s′ .empty) x ≡ remove P (kept ws noise n) u s
+  remove-proposed s e l k = rw (k, l) (ap proposedIn e ∙ sym (remove-kept s))
+
+-- ---- one support is taken; `b` is whether it was the last, and C′ the counts after it
+
+module _ {P n : ℕ} {D C Q : List ℕ} {pile : Pile} (L : Lent P n D C Q pile) {c d q : ℕ} (hc : c < n) (hd : d < 4) (hq : q < P) {C′ : List ℕ} {b : Bool}
+    (e : b ≡ lastWay C (place P c q d)) (l : C′ ≡ loweredAt C (place P c q d)) where
+  last-one : b ≡ true → getD C (place P c q d) 0 ≡ 1
+  unfolding lastWay
+  last-one t = eqb-true _ _ (sym e ∙ t)
+
+  -- the last support is left to the removal
+  last-same : b ≡ true → C′ ≡ C
+  unfolding loweredAt
+  last-same t = l ∙ rw (last-one t)
+
+  pub lent-last : b ≡ true → Lent P n D C′ Q pile
+  lent-last t = rw (last-same t) L
+
+  pub possible-last : b ≡ true → possible D c q ≡ 1
+  possible-last t = counted-possible P n (n * P) _ (L .safe) c q d hc hq hd (omega (arith, last-one t))
+
+  module _ {X : Type 0} (keep : Removal → List ℕ → X → X) (x : X) where
+    pub decrement-last : b ≡ true → {s : State X} → s ≡ remove P keep (removal c q) (stateOf P D C′ Q pile x) → s ≡ decrement P keep c d q (stateOf P D C Q pile x)
+    unfolding decrement
+    decrement-last t k = rw (last-one t, decrement) (rw (last-same t) at k)
+
+    pub decrement-more : b ≡ false → stateOf P D C′ Q pile x ≡ decrement P keep c d q (stateOf P D C Q pile x)
+    unfolding lastWay loweredAt decrement
+    decrement-more t = rw l (go (getD C (place P c q d) 0) (eqb-false _ _ (sym e ∙ t)))
+      where
+        go : (m : ℕ) → (m ≡ 1 → ⊥)
+            → stateOf P D (cond (leb 2 m) (set C (place P c q d) (m - 1)) C) Q pile x ≡ decrementAt P keep c d q m (stateOf P D C Q pile x)
+        go zero f = refl
+        go (suc zero) f = absurd (f refl)
+        go (suc (suc m)) f =
+            let less : suc (suc m) - 1 ≡ suc m = omega arith in
+            rw (le-leb 2 (suc (suc m)) (omega arith), less)
