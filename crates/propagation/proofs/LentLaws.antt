@@ -2,7 +2,7 @@
 -- Assumes nothing.
 use mathlib.Core.Bool.{Bool, true, false, _||_}
 use mathlib.Core.List.{List, [], _∷_}
-use mathlib.Core.Path.{_≡_, refl, sym, ap, _∙_}
+use mathlib.Core.Path.{_≡_, refl, sym, ap, subst, _∙_}
 use Prim.Native.Nat.{ℕ, zero, suc, _+_, _-_, _*_, _/_, _%_, _≤_, _<_}
 use native.Mathlib.Nat.{le-refl}
 use native.Mathlib.Numerals.{add-one}
@@ -18,7 +18,7 @@ use Rattle.consistency.specs.Worklist.{Removal, removal, State, state, place, c
 use Rattle.consistency.specs.Safe.{Safe}
 use Rattle.consistency.proofs.Keep.{removed-less, total-less}
 use Rattle.propagation.specs.declared.inner.Pile.{Pile}
-use Rattle.propagation.specs.Beside.{beside, lessened}
+use Rattle.propagation.specs.Beside.{Beside, beside, lessened}
 use Rattle.propagation.specs.Lent.{pendingOf, stateOf, Lent, Room}
 
 -- ---- the pile
@@ -97,3 +97,49 @@ module _ (ws D C Q : List ℕ) (pile : Pile) (floats : List Float) (c : ℕ) whe
     where
       zero-more : (c * P + p) * 4 ≡ place P c p 0
       zero-more = omega arith
+
+-- ---- on the way through a function that lends its slices on
+
+-- the lent slices as one value
+pub record Memory : Type 0 where
+  pub domains : List ℕ
+  pub counts : List ℕ
+  pub pending : List ℕ
+  pub floats : List Float
+  pub marks : List ℕ
+
+abbrev pub memory : List ℕ → List ℕ → List ℕ → List Float → List ℕ → Memory
+memory domains counts pending floats marks = record { domains = domains; counts = counts; pending = pending; floats = floats; marks = marks }
+
+abbrev pub stateIn : ℕ → Memory → Pile → State Beside
+stateIn P m pile = stateOf P (m .domains) (m .counts) (m .pending) pile (beside (m .floats) (m .marks))
+
+-- the slices are as they must be, and as long as they were
+pub record Going (P n : ℕ) (ws noise : List ℕ) (m₀ m : Memory) (pile : Pile) : Type 0 where
+  pub lent : Lent P n (m .domains) (m .counts) (m .pending) pile
+  pub room : Room P n ws noise (m .floats) (m .marks)
+  pub domains : length (m .domains) ≡ length (m₀ .domains)
+  pub counts : length (m .counts) ≡ length (m₀ .counts)
+  pub pending : length (m .pending) ≡ length (m₀ .pending)
+  pub floats : length (m .floats) ≡ length (m₀ .floats)
+  pub marks : length (m .marks) ≡ length (m₀ .marks)
+
+module _ {P n : ℕ} {ws noise : List ℕ} where
+  pub going-start : {m : Memory} {pile : Pile} → Lent P n (m .domains) (m .counts) (m .pending) pile → Room P n ws noise (m .floats) (m .marks)
+      → Going P n ws noise m m pile
+  going-start L R = record { lent = L; room = R; domains = refl; counts = refl; pending = refl; floats = refl; marks = refl }
+
+  -- a step that is safe, and whose slices are as long as before
+  pub going-on : {m₀ m m′ : Memory} {pile r : Pile} {s : State Beside} → Going P n ws noise m₀ m pile → stateIn P m′ r ≡ s → Safe P n (n * P) s
+      → length (m′ .domains) ≡ length (m .domains) → length (m′ .counts) ≡ length (m .counts) → length (m′ .pending) ≡ length (m .pending)
+      → length (m′ .floats) ≡ length (m .floats) → length (m′ .marks) ≡ length (m .marks) → Going P n ws noise m₀ m′ r
+  going-on G e S domains counts pending floats marks =
+      record {
+        lent = lent-after (G .lent) (subst (λ (z : State Beside). Safe P n (n * P) z) (sym e) S) pending;
+        room = room-after (G .room) floats marks;
+        domains = domains ∙ G .domains;
+        counts = counts ∙ G .counts;
+        pending = pending ∙ G .pending;
+        floats = floats ∙ G .floats;
+        marks = marks ∙ G .marks;
+      }

@@ -2,7 +2,7 @@
 -- Follows docs/RULES.md, "Propagation".
 -- Assumes nothing.
 use mathlib.Core.Bool.{Bool, true, false, cond}
-use mathlib.Core.List.{List}
+use mathlib.Core.List.{List, [], _∷_}
 use mathlib.Core.Path.{_≡_, refl, sym, ap, subst, _∙_}
 use Prim.Native.Nat.{ℕ, zero, suc, _+_, _-_, _*_, _≤_, _<_}
 use native.Mathlib.Omega.{arith}
@@ -10,14 +10,21 @@ use lib.Dec.{leb, eqb}
 use lib.Ieee.{Float}
 use lib.ListN.{length, getD, set}
 use borrow.Author.Tests.{eqb-true, eqb-false, le-leb}
+use Rattle.loops.specs.Loops.{each}
+use Rattle.adjacency.specs.Tables.{Table, listOf}
+use Rattle.grid.specs.declared.Near.{Near}
+use Rattle.grid.specs.declared.Near.the-variants.{Cell, Edge}
+use Rattle.grid.specs.Grid.{Grid, neighbour}
+use Rattle.grid.specs.Answers.{cellOf}
+use Rattle.grid.proofs.GridLaws.{neighbour-inside}
 use Rattle.consistency.specs.Domains.{possible, Fit}
-use Rattle.consistency.specs.Worklist.{Removal, removal, State, state, place, remove, decrementAt, decrement}
+use Rattle.consistency.specs.Worklist.{Removal, removal, State, state, place, remove, decrementAt, decrement, decrements, spreadIn}
 use Rattle.consistency.specs.Safe.{Safe}
 use Rattle.consistency.proofs.Keep.{counted-possible, safe-remove}
 use Rattle.propagation.specs.declared.inner.Pile.{Pile}
 use Rattle.propagation.specs.Beside.{Beside, lessened, proposing, kept}
 use Rattle.propagation.specs.Supports.{lastWay, loweredAt}
-use Rattle.propagation.specs.Lent.{stateOf, Lent}
+use Rattle.propagation.specs.Lent.{stateOf, Lent, Ground}
 use Rattle.propagation.proofs.LentLaws.{lent-safe}
 
 -- ---- a pattern goes in propagation
@@ -38,10 +45,10 @@ module _ (P : ℕ) (ws noise : List ℕ) (n : ℕ) (u : Removal) where
   unfolding remove kept
   remove-kept s = refl
 
-  pub remove-proposed : (s : State Beside) {s′ : State Beside} {m : ℕ} {x : Beside} → s′ ≡ remove P (lessened ws) u s → m ≡ n
-      → x ≡ proposing ws noise m (u .cell) (u .pattern) (getD (s′ .domains) (u .cell) 0) (s′ .beside)
+  pub remove-proposed : (s : State Beside) {s′ : State Beside} {x : Beside} → s′ ≡ remove P (lessened ws) u s
+      → x ≡ proposing ws noise n (u .cell) (u .pattern) (getD (s′ .domains) (u .cell) 0) (s′ .beside)
       → state (s′ .counts) (s′ .domains) (s′ .pending) (s′ .empty) x ≡ remove P (kept ws noise n) u s
-  remove-proposed s e l k = rw (k, l) (ap proposedIn e ∙ sym (remove-kept s))
+  remove-proposed s e k = rw k (ap proposedIn e ∙ sym (remove-kept s))
 
 -- ---- one support is taken; `b` is whether it was the last, and C′ the counts after it
 
@@ -78,3 +85,30 @@ module _ {P n : ℕ} {D C Q : List ℕ} {pile : Pile} (L : Lent P n D C Q pile) 
         go (suc (suc m)) f =
             let less : suc (suc m) - 1 ≡ suc m = omega arith in
             rw (le-leb 2 (suc (suc m)) (omega arith), less)
+
+-- ---- a list
+
+pub decrements-each : (P : ℕ) {X : Type 0} (keep : Removal → List ℕ → X → X) (c d : ℕ) (qs : List ℕ) (s : State X)
+    → decrements P keep c d qs s ≡ each (decrement P keep c d) qs s
+unfolding decrements each
+decrements-each P keep c d [] s = refl
+decrements-each P keep c d (q ∷ qs) s = decrements-each P keep c d qs (decrement P keep c d q s)
+
+-- ---- a direction
+
+-- a neighbour that is a cell is one of the grid
+pub cell-inside : {t : Table} {g : Grid} {n c d m : ℕ} {v : Near} → Ground t g n → c < n → d < 4 → cellOf v ≡ neighbour g c d → v ≡ Cell m → m < n
+unfolding cellOf
+cell-inside {t} {g} {n} {c} {d} {m} G hc hd e k =
+    omega (arith, G .all, neighbour-inside g c d m (omega (arith, G .all)) hd (sym e ∙ ap cellOf k))
+
+-- the ways through `spread_in`
+module _ (t : Table) (g : Grid) {X : Type 0} (keep : Removal → List ℕ → X → X) (c p d : ℕ) (s : State X) {v : Near} (e : cellOf v ≡ neighbour g c d) where
+  pub spreadIn-cell : {m : ℕ} {list : List ℕ} {s′ : State X} → v ≡ Cell m → list ≡ listOf t p d → s′ ≡ decrements (t .count) keep m d list s
+      → s′ ≡ spreadIn t g keep (removal c p) d s
+  unfolding spreadIn cellOf
+  spreadIn-cell k l f = rw (sym e ∙ ap cellOf k, f, l)
+
+  pub spreadIn-edge : v ≡ Edge → s ≡ spreadIn t g keep (removal c p) d s
+  unfolding spreadIn cellOf
+  spreadIn-edge k = rw (sym e ∙ ap cellOf k)

@@ -66,10 +66,10 @@ pub fn propagate(
     ids: &[u8],
     weights: &[u32],
     weighted: u64,
-    noise: &[u32],
     width: usize,
     height: usize,
     mode: usize,
+    noise: &[u32],
     domains: &mut [u64],
     counts: &mut [u8],
     pending: &mut [u32],
@@ -78,33 +78,18 @@ pub fn propagate(
     pile: Pile,
 ) -> Pile
     requires { ⌜ Lent count (length (now domains)) (now domains) (now counts) (now pending) pile ⌝ }
-    requires { ⌜ Room count (length (now domains)) (now weights) (now noise) (now floats) (now marks) × (weighted ≡ mask (now weights)) ⌝ }
     requires { ⌜ Ground (table count (now offsets) (now ids)) (grid width height mode) (length (now domains)) ⌝ }
+    requires { ⌜ Room count (length (now domains)) (now weights) (now noise) (now floats) (now marks) × (weighted ≡ mask (now weights)) ⌝ }
     ensures { λ r. ⌜ stateOf count (now (domains .exit)) (now (counts .exit)) (now (pending .exit)) r (beside (now (floats .exit)) (now (marks .exit)))
         ≡ worklist.propagated (table count (now (offsets .entry)) (now (ids .entry))) (grid width height mode) (kept (now (weights .entry)) (now (noise .entry)) (length (now (domains .entry))))
         (stateOf count (now (domains .entry)) (now (counts .entry)) (now (pending .entry)) pile
         (unmarked (length (now (domains .entry))) (beside (now (floats .entry)) (now (marks .entry))))) ⌝ }
 {
-    crate::notes::unmark(domains.len(), marks);
-    let mut now = pile;
-    while (0 < now.top) & !now.empty {
-        now = crate::propagator::pop(
-            count,
-            offsets,
-            ids,
-            weights,
-            weighted,
-            noise,
-            width,
-            height,
-            mode,
-            domains,
-            counts,
-            pending,
-            floats,
-            marks,
-            now,
-        );
+    let cells = domains.len();
+    crate::notes::unmark(cells, marks);
+    let mut next = pile;
+    while (0 < next.top) & !next.empty {
+        next = crate::propagator::pop(count, offsets, ids, weights, weighted, width, height, mode, noise, cells, domains, counts, pending, floats, marks, next);
     }
-    now
+    next
 }

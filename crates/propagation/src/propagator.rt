@@ -2,7 +2,6 @@
 // Follows docs/RULES.md, "Propagation".
 ghost use mathlib.Core.Path.{_≡_};
 ghost use Prim.Native.Nat.{_<_};
-ghost use lib.ListN.{length};
 ghost use Rattle.adjacency.specs.Accepted.{AllBelow};
 ghost use Rattle.adjacency.specs.Tables.{table};
 ghost use Rattle.adjacency.specs.Weights.{mask};
@@ -33,6 +32,7 @@ fn remove_and_propose(
     weights: &[u32],
     weighted: u64,
     noise: &[u32],
+    cells: usize,
     cell: usize,
     pattern: usize,
     domains: &mut [u64],
@@ -42,36 +42,15 @@ fn remove_and_propose(
     marks: &mut [u8],
     pile: Pile,
 ) -> Pile
-    requires { ⌜ Lent count (length (now domains)) (now domains) (now counts) (now pending) pile ⌝ }
-    requires { ⌜ Room count (length (now domains)) (now weights) (now noise) (now floats) (now marks) × (weighted ≡ mask (now weights)) ⌝ }
-    requires { ⌜ (cell < length (now domains)) × (pattern < count) × (possible (now domains) cell pattern ≡ 1) ⌝ }
+    requires { ⌜ Lent count cells (now domains) (now counts) (now pending) pile ⌝ }
+    requires { ⌜ Room count cells (now weights) (now noise) (now floats) (now marks) × (weighted ≡ mask (now weights)) ⌝ }
+    requires { ⌜ (cell < cells) × (pattern < count) × (possible (now domains) cell pattern ≡ 1) ⌝ }
     ensures { λ r. ⌜ stateOf count (now (domains .exit)) (now (counts .exit)) (now (pending .exit)) r (beside (now (floats .exit)) (now (marks .exit)))
-        ≡ worklist.remove count (kept (now (weights .entry)) (now (noise .entry)) (length (now (domains .entry)))) (removal cell pattern)
+        ≡ worklist.remove count (kept (now (weights .entry)) (now (noise .entry)) cells) (removal cell pattern)
         (stateOf count (now (domains .entry)) (now (counts .entry)) (now (pending .entry)) pile (beside (now (floats .entry)) (now (marks .entry)))) ⌝ }
 {
-    let next = crate::inner::remove(
-        count,
-        weights,
-        cell,
-        pattern,
-        domains,
-        counts,
-        pending,
-        floats,
-        pile,
-    );
-    crate::notes::propose(
-        count,
-        weights,
-        weighted,
-        noise,
-        domains.len(),
-        cell,
-        pattern,
-        domains[cell],
-        floats,
-        marks,
-    );
+    let next = crate::inner::remove(count, weights, cell, pattern, domains, counts, pending, floats, pile);
+    crate::notes::propose(count, weights, weighted, noise, cells, cell, pattern, domains[cell], floats, marks);
     next
 }
 
@@ -81,6 +60,7 @@ fn decrement(
     weights: &[u32],
     weighted: u64,
     noise: &[u32],
+    cells: usize,
     cell: usize,
     d: usize,
     q: usize,
@@ -91,28 +71,15 @@ fn decrement(
     marks: &mut [u8],
     pile: Pile,
 ) -> Pile
-    requires { ⌜ Lent count (length (now domains)) (now domains) (now counts) (now pending) pile ⌝ }
-    requires { ⌜ Room count (length (now domains)) (now weights) (now noise) (now floats) (now marks) × (weighted ≡ mask (now weights)) ⌝ }
-    requires { ⌜ (cell < length (now domains)) × (d < 4) × (q < count) ⌝ }
+    requires { ⌜ Lent count cells (now domains) (now counts) (now pending) pile ⌝ }
+    requires { ⌜ Room count cells (now weights) (now noise) (now floats) (now marks) × (weighted ≡ mask (now weights)) ⌝ }
+    requires { ⌜ (cell < cells) × (d < 4) × (q < count) ⌝ }
     ensures { λ r. ⌜ stateOf count (now (domains .exit)) (now (counts .exit)) (now (pending .exit)) r (beside (now (floats .exit)) (now (marks .exit)))
-        ≡ worklist.decrement count (kept (now (weights .entry)) (now (noise .entry)) (length (now (domains .entry)))) cell d q
+        ≡ worklist.decrement count (kept (now (weights .entry)) (now (noise .entry)) cells) cell d q
         (stateOf count (now (domains .entry)) (now (counts .entry)) (now (pending .entry)) pile (beside (now (floats .entry)) (now (marks .entry)))) ⌝ }
 {
     if crate::num_ways::try_decrement(counts, (cell * count + q) * 4 + d) {
-        return remove_and_propose(
-            count,
-            weights,
-            weighted,
-            noise,
-            cell,
-            q,
-            domains,
-            counts,
-            pending,
-            floats,
-            marks,
-            pile,
-        );
+        return remove_and_propose(count, weights, weighted, noise, cells, cell, q, domains, counts, pending, floats, marks, pile);
     }
     pile
 }
@@ -123,6 +90,7 @@ fn decrements(
     weights: &[u32],
     weighted: u64,
     noise: &[u32],
+    cells: usize,
     cell: usize,
     d: usize,
     list: &[u8],
@@ -133,34 +101,20 @@ fn decrements(
     marks: &mut [u8],
     pile: Pile,
 ) -> Pile
-    requires { ⌜ Lent count (length (now domains)) (now domains) (now counts) (now pending) pile ⌝ }
-    requires { ⌜ Room count (length (now domains)) (now weights) (now noise) (now floats) (now marks) × (weighted ≡ mask (now weights)) ⌝ }
-    requires { ⌜ (cell < length (now domains)) × (d < 4) × AllBelow count (now list) ⌝ }
+    requires { ⌜ Lent count cells (now domains) (now counts) (now pending) pile ⌝ }
+    requires { ⌜ Room count cells (now weights) (now noise) (now floats) (now marks) × (weighted ≡ mask (now weights)) ⌝ }
+    requires { ⌜ (cell < cells) × (d < 4) × AllBelow count (now list) ⌝ }
     ensures { λ r. ⌜ stateOf count (now (domains .exit)) (now (counts .exit)) (now (pending .exit)) r (beside (now (floats .exit)) (now (marks .exit)))
-        ≡ worklist.decrements count (kept (now (weights .entry)) (now (noise .entry)) (length (now (domains .entry)))) cell d (now (list .entry))
+        ≡ worklist.decrements count (kept (now (weights .entry)) (now (noise .entry)) cells) cell d (now (list .entry))
         (stateOf count (now (domains .entry)) (now (counts .entry)) (now (pending .entry)) pile (beside (now (floats .entry)) (now (marks .entry)))) ⌝ }
 {
-    let mut now = pile;
+    let mut next = pile;
     let mut i = 0;
     while i < list.len() {
-        now = decrement(
-            count,
-            weights,
-            weighted,
-            noise,
-            cell,
-            d,
-            wide(list[i]),
-            domains,
-            counts,
-            pending,
-            floats,
-            marks,
-            now,
-        );
+        next = decrement(count, weights, weighted, noise, cells, cell, d, wide(list[i]), domains, counts, pending, floats, marks, next);
         i += 1;
     }
-    now
+    next
 }
 
 // What the removal of pattern p from a cell takes from the neighbour in direction d, where there is one.
@@ -170,10 +124,11 @@ fn spread_in(
     ids: &[u8],
     weights: &[u32],
     weighted: u64,
-    noise: &[u32],
     width: usize,
     height: usize,
     mode: usize,
+    noise: &[u32],
+    cells: usize,
     cell: usize,
     p: usize,
     d: usize,
@@ -184,30 +139,16 @@ fn spread_in(
     marks: &mut [u8],
     pile: Pile,
 ) -> Pile
-    requires { ⌜ Lent count (length (now domains)) (now domains) (now counts) (now pending) pile ⌝ }
-    requires { ⌜ Room count (length (now domains)) (now weights) (now noise) (now floats) (now marks) × (weighted ≡ mask (now weights)) ⌝ }
-    requires { ⌜ Ground (table count (now offsets) (now ids)) (grid width height mode) (length (now domains)) × (cell < length (now domains)) × (p < count) × (d < 4) ⌝ }
+    requires { ⌜ Lent count cells (now domains) (now counts) (now pending) pile ⌝ }
+    requires { ⌜ Ground (table count (now offsets) (now ids)) (grid width height mode) cells × (cell < cells) × (p < count) × (d < 4) ⌝ }
+    requires { ⌜ Room count cells (now weights) (now noise) (now floats) (now marks) × (weighted ≡ mask (now weights)) ⌝ }
     ensures { λ r. ⌜ stateOf count (now (domains .exit)) (now (counts .exit)) (now (pending .exit)) r (beside (now (floats .exit)) (now (marks .exit)))
-        ≡ worklist.spreadIn (table count (now (offsets .entry)) (now (ids .entry))) (grid width height mode) (kept (now (weights .entry)) (now (noise .entry)) (length (now (domains .entry)))) (removal cell p) d
+        ≡ worklist.spreadIn (table count (now (offsets .entry)) (now (ids .entry))) (grid width height mode) (kept (now (weights .entry)) (now (noise .entry)) cells) (removal cell p) d
         (stateOf count (now (domains .entry)) (now (counts .entry)) (now (pending .entry)) pile (beside (now (floats .entry)) (now (marks .entry)))) ⌝ }
 {
     let near = grid::inner::neighbour_of(width, height, mode, cell, d);
     match near {
-        Near::Cell(n) => decrements(
-            count,
-            weights,
-            weighted,
-            noise,
-            n,
-            d,
-            adjacency::inner::list_of(count, offsets, ids, p, d),
-            domains,
-            counts,
-            pending,
-            floats,
-            marks,
-            pile,
-        ),
+        Near::Cell(n) => decrements(count, weights, weighted, noise, cells, n, d, adjacency::inner::list_of(count, offsets, ids, p, d), domains, counts, pending, floats, marks, pile),
         Near::Edge => pile,
     }
 }
@@ -219,10 +160,11 @@ fn spread(
     ids: &[u8],
     weights: &[u32],
     weighted: u64,
-    noise: &[u32],
     width: usize,
     height: usize,
     mode: usize,
+    noise: &[u32],
+    cells: usize,
     cell: usize,
     p: usize,
     domains: &mut [u64],
@@ -232,39 +174,20 @@ fn spread(
     marks: &mut [u8],
     pile: Pile,
 ) -> Pile
-    requires { ⌜ Lent count (length (now domains)) (now domains) (now counts) (now pending) pile ⌝ }
-    requires { ⌜ Room count (length (now domains)) (now weights) (now noise) (now floats) (now marks) × (weighted ≡ mask (now weights)) ⌝ }
-    requires { ⌜ Ground (table count (now offsets) (now ids)) (grid width height mode) (length (now domains)) × (cell < length (now domains)) × (p < count) ⌝ }
+    requires { ⌜ Lent count cells (now domains) (now counts) (now pending) pile ⌝ }
+    requires { ⌜ Ground (table count (now offsets) (now ids)) (grid width height mode) cells × (cell < cells) × (p < count) ⌝ }
+    requires { ⌜ Room count cells (now weights) (now noise) (now floats) (now marks) × (weighted ≡ mask (now weights)) ⌝ }
     ensures { λ r. ⌜ stateOf count (now (domains .exit)) (now (counts .exit)) (now (pending .exit)) r (beside (now (floats .exit)) (now (marks .exit)))
-        ≡ worklist.spread (table count (now (offsets .entry)) (now (ids .entry))) (grid width height mode) (kept (now (weights .entry)) (now (noise .entry)) (length (now (domains .entry)))) (removal cell p)
+        ≡ worklist.spread (table count (now (offsets .entry)) (now (ids .entry))) (grid width height mode) (kept (now (weights .entry)) (now (noise .entry)) cells) (removal cell p)
         (stateOf count (now (domains .entry)) (now (counts .entry)) (now (pending .entry)) pile (beside (now (floats .entry)) (now (marks .entry)))) ⌝ }
 {
-    let mut now = pile;
+    let mut next = pile;
     let mut d = 0;
     while d < 4 {
-        now = spread_in(
-            count,
-            offsets,
-            ids,
-            weights,
-            weighted,
-            noise,
-            width,
-            height,
-            mode,
-            cell,
-            p,
-            d,
-            domains,
-            counts,
-            pending,
-            floats,
-            marks,
-            now,
-        );
+        next = spread_in(count, offsets, ids, weights, weighted, width, height, mode, noise, cells, cell, p, d, domains, counts, pending, floats, marks, next);
         d += 1;
     }
-    now
+    next
 }
 
 // Pops the removal on top of the pile and spreads it.
@@ -274,10 +197,11 @@ pub(crate) fn pop(
     ids: &[u8],
     weights: &[u32],
     weighted: u64,
-    noise: &[u32],
     width: usize,
     height: usize,
     mode: usize,
+    noise: &[u32],
+    cells: usize,
     domains: &mut [u64],
     counts: &mut [u8],
     pending: &mut [u32],
@@ -285,35 +209,14 @@ pub(crate) fn pop(
     marks: &mut [u8],
     pile: Pile,
 ) -> Pile
-    requires { ⌜ Lent count (length (now domains)) (now domains) (now counts) (now pending) pile ⌝ }
-    requires { ⌜ Room count (length (now domains)) (now weights) (now noise) (now floats) (now marks) × (weighted ≡ mask (now weights)) ⌝ }
-    requires { ⌜ Ground (table count (now offsets) (now ids)) (grid width height mode) (length (now domains)) × (0 < pile .top) ⌝ }
+    requires { ⌜ Lent count cells (now domains) (now counts) (now pending) pile ⌝ }
+    requires { ⌜ Ground (table count (now offsets) (now ids)) (grid width height mode) cells × (0 < pile .top) ⌝ }
+    requires { ⌜ Room count cells (now weights) (now noise) (now floats) (now marks) × (weighted ≡ mask (now weights)) ⌝ }
     ensures { λ r. ⌜ stateOf count (now (domains .exit)) (now (counts .exit)) (now (pending .exit)) r (beside (now (floats .exit)) (now (marks .exit)))
-        ≡ worklist.spread (table count (now (offsets .entry)) (now (ids .entry))) (grid width height mode) (kept (now (weights .entry)) (now (noise .entry)) (length (now (domains .entry)))) (topOf count (now (pending .entry)) pile)
+        ≡ worklist.spread (table count (now (offsets .entry)) (now (ids .entry))) (grid width height mode) (kept (now (weights .entry)) (now (noise .entry)) cells) (topOf count (now (pending .entry)) pile)
         (stateOf count (now (domains .entry)) (now (counts .entry)) (now (pending .entry)) (lowered pile) (beside (now (floats .entry)) (now (marks .entry)))) ⌝ }
 {
     let top = pile.top - 1;
     let u = slot(pending[top]);
-    spread(
-        count,
-        offsets,
-        ids,
-        weights,
-        weighted,
-        noise,
-        width,
-        height,
-        mode,
-        u / count,
-        u % count,
-        domains,
-        counts,
-        pending,
-        floats,
-        marks,
-        Pile {
-            top: top,
-            empty: pile.empty,
-        },
-    )
+    spread(count, offsets, ids, weights, weighted, width, height, mode, noise, cells, u / count, u % count, domains, counts, pending, floats, marks, Pile { top: top, empty: pile.empty })
 }

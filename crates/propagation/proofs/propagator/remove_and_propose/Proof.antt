@@ -11,7 +11,7 @@ remove-requires : tie.Need-remove-requires
 remove-requires c κs =
     let s = c .before .before .before .before .before .before .before .before .before .before .before in
     let (lent, ((room, _), which)) = s .pre in
-    (lent, ((room .weighed, λ p h. room .roomy p h .valued), which))
+    rw (lent .safe .fit .sized) (lent, ((room .weighed, λ p h. room .roomy p h .valued), which))
 
 mul-propose : tie.Need-mul-propose
 mul-propose c = search needs
@@ -25,7 +25,7 @@ propose-requires c κs =
     let s = removed .before .before .before .before .before .before .before .before .before .before .before .before in
     let (lent, ((room, masked), (hc, hp, h))) = s .pre in
     let fit = fit-remove lent _ _ hc hp h (removed .remove .ensures (s .args .marks .now)) in
-    ((rw (fit .sized) (room-after room (removed .remove .kept .1 .1 .1 .1 .1 .1 .1 .0) refl), masked), (lent .patterns, rw (fit .sized) hc, hp, fit .words (s .args .cell)))
+    ((room-after room (removed .remove .kept .1 .1 .1 .1 .1 .1 .1 .0) refl, masked), (lent .patterns, hc, hp, fit .words (s .args .cell)))
 
 same-length : tie.Need-same-length
 same-length c = search needs
@@ -47,9 +47,7 @@ returns c =
     let proposed = c .before .before .before .before in
     let removed = proposed .before .before .before .before .before .before .before .before .before .before .before .before in
     let s = removed .before .before .before .before .before .before .before .before .before .before .before .before in
-    let (lent, (room, (hc, hp, h))) = s .pre in
-    let e = removed .remove .ensures (s .args .marks .now) in
-    remove-proposed _ _ _ _ _ _ e (fit-remove lent _ _ hc hp h e .sized) (proposed .propose .ensures)
+    remove-proposed _ _ _ _ _ _ (removed .remove .ensures (s .args .marks .now)) (proposed .propose .ensures)
 
 pub remove-and-propose-spec : {M : Type 1} → statement M
 remove-and-propose-spec =

@@ -1,59 +1,56 @@
+-- `propagation::propagator::spread_in` meets its contract, by whether there is a neighbour.
+-- Assumes nothing.
 use borrow.Author.Needs.{needs}
+use Rattle.grid.proofs.GridLaws.{neighbour-inside}
+use Rattle.propagation.proofs.PropagatorLaws.{cell-inside, spreadIn-cell, spreadIn-edge}
 use Rattle.propagation.proofs.propagator.spread_in.Statement.{statement}
 use Rattle.propagation.proofs.propagator.spread_in.Tie as tie
-use Rattle.propagation.proofs.propagator.spread_in.Reads as reads
-use Rattle.propagation.proofs.propagator.spread_in.Lts as lts
-use Rattle.adjacency.proofs.inner.list_of.Reads as list-of-reads
-use Rattle.grid.proofs.inner.neighbour_of.Reads as neighbour-of-reads
-use Rattle.propagation.proofs.propagator.decrements.Reads as decrements-reads
 
--- src/propagator.rt:194:9
 neighbour-of-requires : tie.Need-neighbour-of-requires
 neighbour-of-requires c κs = search needs
 
--- src/propagator.rt:196:20
 enum-known-near : tie.Need-enum-known-near
 enum-known-near c = search needs
 
--- src/propagator.rt:203:13
 list-of-requires : tie.Need-list-of-requires
 list-of-requires c κs = search needs
 
--- src/propagator.rt:196:26
 decrements-requires : tie.Need-decrements-requires
-decrements-requires c κs = ?
+decrements-requires c κs =
+    let list = c .before .before .before .before .before in
+    let near = list .before .before in
+    let found = near .before .before in
+    let (lent, ((ground, hc, hp, hd), room)) = found .before .before .before .before .before .before .before .before .before .before .pre in
+    (lent, (room, (cell-inside ground hc hd (found .neighbour-of .ensures) (near .near .given .1), hd, rw (list .list-of .ensures) (ground .accepted .listed .below _ _ hp hd))))
 
--- src/propagator.rt:211:23
 enum-told : tie.Need-enum-told
 enum-told c = search needs
 
--- src/propagator.rt:167:1
 same-length : tie.Need-same-length
 same-length c = search needs
 
--- src/propagator.rt:167:1
 same-length-2 : tie.Need-same-length-2
 same-length-2 c = search needs
 
--- src/propagator.rt:167:1
 same-length-3 : tie.Need-same-length-3
 same-length-3 c = search needs
 
--- src/propagator.rt:167:1
 same-length-4 : tie.Need-same-length-4
 same-length-4 c = search needs
 
--- src/propagator.rt:167:1
 same-length-5 : tie.Need-same-length-5
 same-length-5 c = search needs
 
--- src/propagator.rt:167:1
 returns : tie.Need-returns
-returns c = ?
+returns c =
+    let called = c .before .before .before .before .before .before .before .before .before .before in
+    let list = called .before .before .before .before .before .before in
+    let near = list .before .before in
+    let found = near .before .before in
+    spreadIn-cell _ _ _ _ _ _ _ (found .neighbour-of .ensures) (near .near .given .1) (list .list-of .ensures) (called .decrements .ensures)
 
--- src/propagator.rt:167:1
 returns-2 : tie.Need-returns-2
-returns-2 c = ?
+returns-2 c = spreadIn-edge _ _ _ _ _ _ _ (c .before .before .neighbour-of .ensures) (c .enum-told .given .1)
 
 pub spread-in-spec : {M : Type 1} → statement M
 spread-in-spec =
