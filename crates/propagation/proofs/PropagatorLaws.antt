@@ -10,17 +10,17 @@ use lib.Dec.{leb, eqb}
 use lib.Ieee.{Float}
 use lib.ListN.{length, getD, set}
 use borrow.Author.Tests.{eqb-true, eqb-false, le-leb}
-use Rattle.loops.specs.Loops.{each}
+use Rattle.loops.specs.Loops.{each, steps}
 use Rattle.adjacency.specs.Tables.{Table, listOf}
 use Rattle.grid.specs.declared.Near.{Near}
 use Rattle.grid.specs.declared.Near.the-variants.{Cell, Edge}
-use Rattle.grid.specs.Grid.{Grid, neighbour}
+use Rattle.grid.specs.Grid.{Grid, cells, neighbour}
 use Rattle.grid.specs.Answers.{cellOf}
 use Rattle.grid.proofs.GridLaws.{neighbour-inside}
 use Rattle.consistency.specs.Domains.{possible, Fit}
-use Rattle.consistency.specs.Worklist.{Removal, removal, State, state, place, remove, decrementAt, decrement, decrements, spreadIn}
+use Rattle.consistency.specs.Worklist.{Removal, removal, State, state, place, remove, decrementAt, decrement, decrements, spreadIn, spread}
 use Rattle.consistency.specs.Safe.{Safe}
-use Rattle.consistency.proofs.Keep.{counted-possible, safe-remove}
+use Rattle.consistency.proofs.Keep.{counted-possible, safe-remove, safe-spreadIn, safe-spread}
 use Rattle.propagation.specs.declared.inner.Pile.{Pile}
 use Rattle.propagation.specs.Beside.{Beside, lessened, proposing, kept}
 use Rattle.propagation.specs.Supports.{lastWay, loweredAt}
@@ -112,3 +112,23 @@ module _ (t : Table) (g : Grid) {X : Type 0} (keep : Removal → List ℕ → X 
   pub spreadIn-edge : v ≡ Edge → s ≡ spreadIn t g keep (removal c p) d s
   unfolding spreadIn cellOf
   spreadIn-edge k = rw (sym e ∙ ap cellOf k)
+
+-- ---- all four directions
+
+pub spread-steps : (t : Table) (g : Grid) {X : Type 0} (keep : Removal → List ℕ → X → X) (u : Removal) (s : State X)
+    → spread t g keep u s ≡ steps (spreadIn t g keep u) 0 4 s
+unfolding spread steps
+spread-steps t g keep u s = refl
+
+-- the steps of an accepted table and grid keep a state safe; n is how many cells the grid has
+module _ {t : Table} {g : Grid} {n : ℕ} (G : Ground t g n) {X : Type 0} where
+  all-cells : {M c : ℕ} {s s′ : State X} → (c < cells g → Safe (t .count) (cells g) M s → Safe (t .count) (cells g) M s′)
+      → c < n → Safe (t .count) n M s → Safe (t .count) n M s′
+  all-cells {M} {c} {s} {s′} f = subst (λ (k : ℕ). c < k → Safe (t .count) k M s → Safe (t .count) k M s′) (sym (G .all)) f
+
+  module _ (keep : Removal → List ℕ → X → X) {M c p : ℕ} {s : State X} (hc : c < n) (hp : p < t .count) where
+    pub ground-spreadIn : {d : ℕ} → d < 4 → Safe (t .count) n M s → Safe (t .count) n M (spreadIn t g keep (removal c p) d s)
+    ground-spreadIn hd = all-cells (λ h. safe-spreadIn t g (G .accepted) keep M (removal c p) _ s h hp hd) hc
+
+    pub ground-spread : Safe (t .count) n M s → Safe (t .count) n M (spread t g keep (removal c p) s)
+    ground-spread = all-cells (λ h. safe-spread t g (G .accepted) keep M (removal c p) s h hp) hc
