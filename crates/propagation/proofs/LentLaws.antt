@@ -4,7 +4,7 @@ use mathlib.Core.Bool.{Bool, true, false, _||_}
 use mathlib.Core.List.{List, [], _∷_}
 use mathlib.Core.Path.{_≡_, refl, sym, ap, subst, _∙_}
 use Prim.Native.Nat.{ℕ, zero, suc, _+_, _-_, _*_, _/_, _%_, _≤_, _<_}
-use native.Mathlib.Nat.{le-refl}
+use native.Mathlib.Nat.{le-refl, mul-le-mul}
 use native.Mathlib.Numerals.{add-one}
 use native.Mathlib.Omega.{arith}
 use lib.Arith.{digits-div, digits-mod, digits-lt}
@@ -15,11 +15,11 @@ use lib.Seq.{getD-set-same, getD-set-other}
 use Rattle.words.specs.Words.{without}
 use Rattle.consistency.specs.Domains.{possible, removed}
 use Rattle.consistency.specs.Worklist.{Removal, removal, State, state, place, cleared, remove}
-use Rattle.consistency.specs.Safe.{Safe}
+use Rattle.consistency.specs.Safe.{total, Inside, Safe}
 use Rattle.consistency.proofs.Keep.{removed-less, total-less}
 use Rattle.propagation.specs.declared.inner.Pile.{Pile}
 use Rattle.propagation.specs.Beside.{Beside, beside, lessened}
-use Rattle.propagation.specs.Lent.{pendingOf, stateOf, Lent, Room}
+use Rattle.propagation.specs.Lent.{pendingOf, stateOf, topOf, lowered, Lent, Room}
 
 -- ---- the pile
 
@@ -40,6 +40,14 @@ unfolding pendingOf
 pending-push P l n c p hp h =
     rw (add-one, getD-set-same l n (c * P + p) 0 h, digits-div c hp, digits-mod c hp, pending-set P l n (c * P + p) n (le-refl n))
 
+-- the removal on top is read first
+pub pending-top : (P : ℕ) (l : List ℕ) (pile : Pile) → 0 < pile .top → pendingOf P l (pile .top) ≡ topOf P l pile ∷ pendingOf P l (pile .top - 1)
+unfolding pendingOf
+pending-top P l pile h = ap (pendingOf P l) one-more
+  where
+    one-more : pile .top ≡ suc (pile .top - 1)
+    one-more = omega arith
+
 -- ---- what is safe does not depend on what is kept beside
 
 pub safe-beside : {P n M : ℕ} {X Y : Type 0} (s : State X) (y : Y) → Safe P n M s → Safe P n M (state (s .counts) (s .domains) (s .pending) (s .empty) y)
@@ -52,6 +60,38 @@ module _ {P n : ℕ} {D C Q : List ℕ} {pile : Pile} (L : Lent P n D C Q pile) 
   -- a step that is safe and keeps the pile's room leaves the slices as they must be
   pub lent-after : {D′ C′ Q′ : List ℕ} {r : Pile} {X : Type 0} {x : X} → Safe P n (n * P) (stateOf P D′ C′ Q′ r x) → length Q′ ≡ length Q → Lent P n D′ C′ Q′ r
   lent-after S e = record { some = L .some; patterns = L .patterns; cells = L .cells; safe = safe-beside _ tt S; tall = e ∙ L .tall }
+
+  pub pile-within : pile .top ≤ length Q
+  pile-within = omega (arith, L .safe .room, L .tall, pending-length P Q (pile .top))
+
+  pub pile-small : pile .top ≤ 65536
+  pile-small = omega (arith, pile-within, L .tall, mul-le-mul (L .cells) (L .patterns))
+
+  -- ---- the removal on top, and the pile without it
+
+  module _ (h : 0 < pile .top) where
+    top-inside : (topOf P Q pile .cell < n) × (topOf P Q pile .pattern < P) × Inside P n (pendingOf P Q (pile .top - 1))
+    top-inside = subst (λ (l : List Removal). Inside P n l) (pending-top P Q pile h) (L .safe .inside)
+
+    pub top-cell : topOf P Q pile .cell < n
+    top-cell = top-inside .0
+
+    pub top-pattern : topOf P Q pile .pattern < P
+    top-pattern = top-inside .1
+
+    pub lowered-safe : {X : Type 0} (x : X) (M : ℕ) → pile .top - 1 + total P n D ≤ M → Safe P n M (stateOf P D C Q (lowered pile) x)
+    lowered-safe x M k =
+        record {
+          sized = L .safe .sized;
+          fit = L .safe .fit;
+          inside = top-inside .2;
+          room = omega (arith, pending-length P Q (pile .top - 1));
+          dead = L .safe .dead;
+          told = L .safe .told;
+        }
+
+    pub lent-lowered : Lent P n D C Q (lowered pile)
+    lent-lowered = lent-after (lowered-safe (tt {0}) (n * P) (omega (arith, L .safe .room, pending-length P Q (pile .top)))) refl
 
   -- ---- where a cell's pattern stands
 

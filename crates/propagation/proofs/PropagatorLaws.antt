@@ -4,7 +4,7 @@
 use mathlib.Core.Bool.{Bool, true, false, cond}
 use mathlib.Core.List.{List, [], _∷_}
 use mathlib.Core.Path.{_≡_, refl, sym, ap, subst, _∙_}
-use Prim.Native.Nat.{ℕ, zero, suc, _+_, _-_, _*_, _≤_, _<_}
+use Prim.Native.Nat.{ℕ, zero, suc, _+_, _-_, _*_, _/_, _%_, _≤_, _<_}
 use native.Mathlib.Omega.{arith}
 use lib.Dec.{leb, eqb}
 use lib.Ieee.{Float}
@@ -132,3 +132,10 @@ module _ {t : Table} {g : Grid} {n : ℕ} (G : Ground t g n) {X : Type 0} where
 
     pub ground-spread : Safe (t .count) n M s → Safe (t .count) n M (spread t g keep (removal c p) s)
     ground-spread = all-cells (λ h. safe-spread t g (G .accepted) keep M (removal c p) s h hp) hc
+
+-- ---- the removal on top of the pile
+
+-- a removal that is read from its slot
+pub spread-slot : (t : Table) (g : Grid) {X : Type 0} (keep : Removal → List ℕ → X → X) (P : ℕ) (s : State X) {u v : ℕ} {s′ : State X} → u ≡ v
+    → s′ ≡ spread t g keep (removal (u / P) (u % P)) s → s′ ≡ spread t g keep (removal (v / P) (v % P)) s
+spread-slot t g keep P s e k = rw e at k
