@@ -1,15 +1,18 @@
 -- Laws of the work list's steps on lent slices: the ways through each function, and what each leaves for the next.
 -- Follows docs/RULES.md, "Propagation".
 -- Assumes nothing.
-use mathlib.Core.Bool.{Bool, true, false, cond}
+use mathlib.Core.Bool.{Bool, true, false, cond, not, _&&_}
 use mathlib.Core.List.{List, [], _∷_}
 use mathlib.Core.Path.{_≡_, refl, sym, ap, subst, _∙_}
 use Prim.Native.Nat.{ℕ, zero, suc, _+_, _-_, _*_, _/_, _%_, _≤_, _<_}
+use native.Mathlib.Decide.{ℕ-discrete}
+use native.Mathlib.Nat.{le-refl}
 use native.Mathlib.Omega.{arith}
-use lib.Dec.{leb, eqb}
+use lib.Dec.{leb, ltb, eqb}
 use lib.Ieee.{Float}
 use lib.ListN.{length, getD, set}
-use borrow.Author.Tests.{eqb-true, eqb-false, le-leb}
+use borrow.Author.Tests.{eqb-true, eqb-false, le-leb, ltb-true, lt-ltb, not-true, not-false}
+use Rattle.loops.proofs.TestLaws.{both}
 use Rattle.loops.specs.Loops.{each, steps}
 use Rattle.adjacency.specs.Tables.{Table, listOf}
 use Rattle.grid.specs.declared.Near.{Near}
@@ -18,14 +21,14 @@ use Rattle.grid.specs.Grid.{Grid, cells, neighbour}
 use Rattle.grid.specs.Answers.{cellOf}
 use Rattle.grid.proofs.GridLaws.{neighbour-inside}
 use Rattle.consistency.specs.Domains.{possible, Fit}
-use Rattle.consistency.specs.Worklist.{Removal, removal, State, state, place, remove, decrementAt, decrement, decrements, spreadIn, spread}
-use Rattle.consistency.specs.Safe.{Safe}
-use Rattle.consistency.proofs.Keep.{counted-possible, safe-remove, safe-spreadIn, safe-spread}
+use Rattle.consistency.specs.Worklist.{Removal, removal, State, state, place, remove, decrementAt, decrement, decrements, spreadIn, spread, propagate, propagated}
+use Rattle.consistency.specs.Safe.{total, Safe}
+use Rattle.consistency.proofs.Keep.{counted-possible, safe-remove, safe-spreadIn, safe-spread, propagate-step, propagate-none, propagate-empty}
 use Rattle.propagation.specs.declared.inner.Pile.{Pile}
 use Rattle.propagation.specs.Beside.{Beside, lessened, proposing, kept}
 use Rattle.propagation.specs.Supports.{lastWay, loweredAt}
-use Rattle.propagation.specs.Lent.{stateOf, Lent, Ground}
-use Rattle.propagation.proofs.LentLaws.{lent-safe}
+use Rattle.propagation.specs.Lent.{pendingOf, stateOf, topOf, lowered, Lent, Ground}
+use Rattle.propagation.proofs.LentLaws.{pending-length, pending-top, lent-safe, top-cell, top-pattern, lowered-safe}
 
 -- ---- a pattern goes in propagation
 
@@ -139,3 +142,52 @@ module _ {t : Table} {g : Grid} {n : ℕ} (G : Ground t g n) {X : Type 0} where
 pub spread-slot : (t : Table) (g : Grid) {X : Type 0} (keep : Removal → List ℕ → X → X) (P : ℕ) (s : State X) {u v : ℕ} {s′ : State X} → u ≡ v
     → s′ ≡ spread t g keep (removal (u / P) (u % P)) s → s′ ≡ spread t g keep (removal (v / P) (v % P)) s
 spread-slot t g keep P s e k = rw e at k
+
+-- ---- what is kept beside at the start
+
+pub propagated-beside : (t : Table) (g : Grid) {X : Type 0} (keep : Removal → List ℕ → X → X) (s : State X) {x : X} {s′ : State X} → s .beside ≡ x
+    → s′ ≡ propagated t g keep s → s′ ≡ propagated t g keep (state (s .counts) (s .domains) (s .pending) (s .empty) x)
+propagated-beside t g keep s e k = k ∙ ap (λ (y : _). propagated t g keep (state (s .counts) (s .domains) (s .pending) (s .empty) y)) e
+
+-- ---- the loop: while a removal is pending and no cell is empty
+
+abbrev unfinished : Pile → Bool
+unfinished pile = ltb 0 (pile .top) && not (pile .empty)
+
+pub unfinished-some : (pile : Pile) → unfinished pile ≡ true → 0 < pile .top
+unfinished-some pile p = ltb-true _ _ (both _ (not (pile .empty)) p .0)
+
+module _ {t : Table} {g : Grid} {n : ℕ} (G : Ground t g n) {X : Type 0} (keep : Removal → List ℕ → X → X) {D C Q : List ℕ} {pile : Pile}
+    (L : Lent (t .count) n D C Q pile) (x : X) where
+  module _ (p : unfinished pile ≡ true) {s : State X} (e : s ≡ spread t g keep (topOf (t .count) Q pile) (stateOf (t .count) D C Q (lowered pile) x)) where
+    some : 0 < pile .top
+    some = unfinished-some pile p
+
+    turn-room : (M : ℕ) → pile .top - 1 + total (t .count) n D ≤ M → Safe (t .count) n M s
+    turn-room M h = subst (λ (z : State X). Safe (t .count) n M z) (sym e) (ground-spread G keep (top-cell L some) (top-pattern L some) (lowered-safe L some x M h))
+
+    pub turn-safe : Safe (t .count) n (n * t .count) s
+    turn-safe = turn-room (n * t .count) (omega (arith, L .safe .room, pending-length (t .count) Q (pile .top)))
+
+    -- a turn leaves less to do
+    pub turn-less : length (s .pending) + total (t .count) n (s .domains) < pile .top + total (t .count) n D
+    turn-less = omega (arith, some, turn-room (pile .top - 1 + total (t .count) n D) (le-refl _) .room)
+
+    -- a turn leads to the same end
+    pub propagated-turn : propagated t g keep s ≡ propagated t g keep (stateOf (t .count) D C Q pile x)
+    unfolding propagated
+    propagated-turn =
+        ap (propagate t g keep (cells g * t .count)) e
+        ∙ sym
+        (propagate-step t g (G .accepted) keep (cells g * t .count) _ (cells g * t .count) (le-refl _)
+        (subst (λ (k : ℕ). Safe (t .count) k (k * t .count) (stateOf (t .count) D C Q pile x)) (G .all) (lent-safe L x))
+        (topOf (t .count) Q pile) _ (pending-top (t .count) Q pile some) (not-true _ (both (ltb 0 (pile .top)) _ p .1)))
+
+  -- where nothing is pending or a cell is empty it has ended
+  pub propagated-end : unfinished pile ≡ false → propagated t g keep (stateOf (t .count) D C Q pile x) ≡ stateOf (t .count) D C Q pile x
+  unfolding propagated pendingOf
+  propagated-end p =
+      elim (ℕ-discrete (pile .top) 0) [
+        | yes z ↦ propagate-none t g (G .accepted) keep (cells g * t .count) _ (ap (pendingOf (t .count) Q) z)
+        | no z ↦ propagate-empty t g (G .accepted) keep (cells g * t .count) _ (not-false _ (rw (lt-ltb 0 (pile .top) (omega arith)) at p))
+      ]
