@@ -1,7 +1,7 @@
 -- Laws of what is kept beside the domains: when a removal proposes, what a proposal writes, and what the start of a propagation clears.
 -- Follows docs/RULES.md, "Propagation".
 -- Assumes nothing.
-use mathlib.Core.Bool.{Bool, true, false, cond, _&&_}
+use mathlib.Core.Bool.{Bool, true, false, cond}
 use mathlib.Core.List.{List, append-nil}
 use mathlib.Core.Path.{_≡_, refl, sym, ap, _∙_}
 use Prim.Native.Nat.{ℕ, zero, suc, _+_, _-_, _^_, _≤_, _<_}
@@ -15,28 +15,27 @@ use lib.ListN.{length, getD, set, take, replicate, length-set}
 use lib.Pow.{pow-mono}
 use lib.Seq.{take-all, take-suc-set, append-snoc}
 use borrow.Author.Tests.{le-leb, leb-true}
-use Rattle.loops.proofs.TestLaws.{both}
 use Rattle.words.specs.Words.{howMany}
-use Rattle.words.proofs.CountLaws.{many-width, many-none}
 use Rattle.adjacency.specs.Weights.{Weighed, weightOf, weightSum, weighted, mask}
-use Rattle.adjacency.proofs.WeightLaws.{true-weighted, false-weighted, zero-weightSum}
 use Rattle.logarithms.specs.Entropy.{minus, entropy}
 use Rattle.logarithms.specs.Notes.{note, lowered}
 use Rattle.logarithms.specs.declared.inner.Note.{Note}
-use Rattle.consistency.specs.Worklist.{removal}
-use Rattle.propagation.specs.Beside.{Beside, beside, weightedIn, lessened, proposes, proposed, noted, proposing, unmarked}
+use Rattle.propagation.specs.Beside.{Beside, beside, weightedIn, lessenedBy, proposes, proposed, noted, proposing, unmarked}
+use Rattle.loops.proofs.TestLaws.{both}
+use Rattle.words.proofs.CountLaws.{many-width, many-none}
+use Rattle.adjacency.proofs.WeightLaws.{true-weighted, false-weighted, zero-weightSum}
 
 -- ---- the running value
 
-module _ (ws : List ℕ) (c p : ℕ) (D marks : List ℕ) (floats : List Float) where
-  pub lessened-weight : {x : Float} → (weightOf ws p ≡ 0 → ⊥) → x ≡ minus (getD floats c nan) (weightOf ws p)
-      → beside (set floats c x) marks ≡ lessened ws (removal c p) D (beside floats marks)
-  unfolding lessened
-  lessened-weight n e = rw (true-weighted ws p (omega arith), e)
+pub lessened-some : (w c : ℕ) (floats : List Float) (marks : List ℕ) {x : Float} → (w ≡ 0 → ⊥) → x ≡ minus (getD floats c nan) w
+    → beside (set floats c x) marks ≡ lessenedBy w c (beside floats marks)
+unfolding lessenedBy
+lessened-some zero c floats marks n e = absurd (n refl)
+lessened-some (suc w) c floats marks n e = rw e
 
-  pub lessened-none : weightOf ws p ≡ 0 → beside floats marks ≡ lessened ws (removal c p) D (beside floats marks)
-  unfolding lessened
-  lessened-none e = rw (false-weighted ws p e)
+pub lessened-none : (w c : ℕ) (floats : List Float) (marks : List ℕ) → w ≡ 0 → beside floats marks ≡ lessenedBy w c (beside floats marks)
+unfolding lessenedBy
+lessened-none w c floats marks e = rw e
 
 -- ---- when a removal proposes
 
@@ -73,6 +72,10 @@ module _ (ws : List ℕ) (p w : ℕ) where
       none z h = omega (arith, many-none (length ws), ap (howMany (length ws)) (zero-weightSum ws w z))
 
 -- ---- what a proposal writes
+
+pub proposed-first : (fresh : ℕ) (old : Note) (e : Float) (m : ℕ) → fresh ≡ 0 → note e (old .noise) m ≡ proposed fresh old e m
+unfolding proposed
+proposed-first fresh old e m z = rw z
 
 pub proposed-later : (fresh : ℕ) (old : Note) (e : Float) (m : ℕ) {n : Note} → (fresh ≡ 0 → ⊥) → n ≡ lowered old e m → n ≡ proposed fresh old e m
 unfolding proposed

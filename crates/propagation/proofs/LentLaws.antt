@@ -1,9 +1,9 @@
 -- Laws of the lent slices of a propagation: what a pile stands for, and that a safe state leaves them as they must be.
 -- Assumes nothing.
-use mathlib.Core.Bool.{Bool, true, false, _||_}
-use mathlib.Core.List.{List, [], _∷_}
+use mathlib.Core.Bool.{_||_}
+use mathlib.Core.List.{List, _∷_}
 use mathlib.Core.Path.{_≡_, refl, sym, ap, subst, _∙_}
-use Prim.Native.Nat.{ℕ, zero, suc, _+_, _-_, _*_, _/_, _%_, _≤_, _<_}
+use Prim.Native.Nat.{ℕ, zero, suc, _+_, _-_, _*_, _≤_, _<_}
 use native.Mathlib.Nat.{le-refl, mul-le-mul}
 use native.Mathlib.Numerals.{add-one}
 use native.Mathlib.Omega.{arith}
@@ -13,13 +13,14 @@ use lib.Ieee.{Float}
 use lib.ListN.{length, getD, set}
 use lib.Seq.{getD-set-same, getD-set-other}
 use Rattle.words.specs.Words.{without}
+use Rattle.adjacency.specs.Weights.{weightOf}
 use Rattle.consistency.specs.Domains.{possible, removed}
 use Rattle.consistency.specs.Worklist.{Removal, removal, State, state, place, cleared, remove}
 use Rattle.consistency.specs.Safe.{total, Inside, Safe}
-use Rattle.consistency.proofs.Keep.{removed-less, total-less}
 use Rattle.propagation.specs.declared.inner.Pile.{Pile}
-use Rattle.propagation.specs.Beside.{Beside, beside, lessened}
+use Rattle.propagation.specs.Beside.{Beside, beside, lessenedBy, lessened}
 use Rattle.propagation.specs.Lent.{pendingOf, stateOf, topOf, lowered, Lent, Room}
+use Rattle.consistency.proofs.Keep.{removed-less, total-less}
 
 -- ---- the pile
 
@@ -120,10 +121,10 @@ module _ (ws D C Q : List ℕ) (pile : Pile) (floats : List Float) (c : ℕ) whe
   -- what the code leaves of the slices is the state without the pattern
   pub remove-is : {P p word slot : ℕ} {C′ : List ℕ} {floats′ : List Float} → p < P → pile .top < length Q
       → word ≡ without (getD D c 0) p → C′ ≡ cleared C ((c * P + p) * 4) → slot ≡ c * P + p
-      → ((domains marks : List ℕ) → beside floats′ marks ≡ lessened ws (removal c p) domains (beside floats marks)) → (marks : List ℕ)
+      → ((marks : List ℕ) → beside floats′ marks ≡ lessenedBy (weightOf ws p) c (beside floats marks)) → (marks : List ℕ)
       → stateOf P (set D c word) C′ (set Q (pile .top) slot) (record { top = pile .top + 1; empty = pile .empty || eqb word 0 }) (beside floats′ marks)
       ≡ remove P (lessened ws) (removal c p) (stateOf P D C Q pile (beside floats marks))
-  unfolding remove
+  unfolding remove lessened
   remove-is {P} {p} hp low w e k x marks =
       rw (w, e, k)
       (λ i.
@@ -132,7 +133,7 @@ module _ (ws D C Q : List ℕ) (pile : Pile) (floats : List Float) (c : ℕ) whe
         domains = removed D c p;
         pending = pending-push P Q (pile .top) c p hp low i;
         empty = pile .empty || eqb (without (getD D c 0) p) 0;
-        beside = x (removed D c p) marks i;
+        beside = x marks i;
       })
     where
       zero-more : (c * P + p) * 4 ≡ place P c p 0

@@ -8,26 +8,25 @@ use Prim.Native.Nat.{ℕ, zero, suc, _+_, _-_, _*_, _/_, _%_, _≤_, _<_}
 use native.Mathlib.Decide.{ℕ-discrete}
 use native.Mathlib.Nat.{le-refl}
 use native.Mathlib.Omega.{arith}
-use lib.Dec.{leb, ltb, eqb}
-use lib.Ieee.{Float}
+use lib.Dec.{leb, ltb}
 use lib.ListN.{length, getD, set}
 use borrow.Author.Tests.{eqb-true, eqb-false, le-leb, ltb-true, lt-ltb, not-true, not-false}
-use Rattle.loops.proofs.TestLaws.{both}
 use Rattle.loops.specs.Loops.{each, steps}
 use Rattle.adjacency.specs.Tables.{Table, listOf}
 use Rattle.grid.specs.declared.Near.{Near}
 use Rattle.grid.specs.declared.Near.the-variants.{Cell, Edge}
 use Rattle.grid.specs.Grid.{Grid, cells, neighbour}
 use Rattle.grid.specs.Answers.{cellOf}
-use Rattle.grid.proofs.GridLaws.{neighbour-inside}
 use Rattle.consistency.specs.Domains.{possible, Fit}
 use Rattle.consistency.specs.Worklist.{Removal, removal, State, state, place, remove, decrementAt, decrement, decrements, spreadIn, spread, propagate, propagated}
 use Rattle.consistency.specs.Safe.{total, Safe}
-use Rattle.consistency.proofs.Keep.{counted-possible, safe-remove, safe-spreadIn, safe-spread, propagate-step, propagate-none, propagate-empty}
 use Rattle.propagation.specs.declared.inner.Pile.{Pile}
 use Rattle.propagation.specs.Beside.{Beside, lessened, proposing, kept}
 use Rattle.propagation.specs.Supports.{lastWay, loweredAt}
 use Rattle.propagation.specs.Lent.{pendingOf, stateOf, topOf, lowered, Lent, Ground}
+use Rattle.loops.proofs.TestLaws.{both}
+use Rattle.grid.proofs.GridLaws.{neighbour-inside}
+use Rattle.consistency.proofs.Keep.{counted-possible, safe-remove, safe-spreadIn, safe-spread, propagate-step, propagate-none, propagate-empty}
 use Rattle.propagation.proofs.LentLaws.{pending-length, pending-top, lent-safe, top-cell, top-pattern, lowered-safe}
 
 -- ---- a pattern goes in propagation

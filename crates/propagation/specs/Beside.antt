@@ -27,15 +27,18 @@ beside floats marks = record { floats = floats; marks = marks }
 abbrev pub weightedIn : List ℕ → ℕ → ℕ
 weightedIn weights w = howMany (length weights) (bitAnd w (mask weights))
 
+-- w log w is taken off a cell's running value; a weight of 0 takes nothing off, and needs none
+unfoldable pub lessenedBy : ℕ → ℕ → Beside → Beside
+unfolding minus
+lessenedBy zero c x = x
+lessenedBy (suc w) c x = beside (set (x .floats) c (minus (getD (x .floats) c nan) (suc w))) (x .marks)
+
 -- over the weights
 module _ (weights : List ℕ) where
-  -- a removal takes w log w off the cell's running value, where its pattern has weight
+  -- a removal takes its pattern's w log w off the cell's running value
   unfoldable pub lessened : Removal → List ℕ → Beside → Beside
-  unfolding weighted minus
-  lessened u D x =
-      cond (weighted weights (u .pattern))
-      (beside (set (x .floats) (u .cell) (minus (getD (x .floats) (u .cell) nan) (weightOf weights (u .pattern)))) (x .marks))
-      x
+  unfolding lessenedBy
+  lessened u D x = lessenedBy (weightOf weights (u .pattern)) (u .cell) x
 
   -- a weighted removal that leaves a weighted pattern and at least two patterns proposes an entropy; w is the cell's word after it
   unfoldable pub proposes : ℕ → ℕ → Bool

@@ -3,7 +3,7 @@
 ghost use mathlib.Core.Bool.{true};
 ghost use mathlib.Core.Path.{_≡_};
 ghost use mathlib.Core.List.{List};
-ghost use Prim.Native.Nat.{ℕ, _*_, _≤_, _<_};
+ghost use Prim.Native.Nat.{ℕ, _*_, _<_};
 ghost use lib.ListN.{length};
 ghost use Rattle.adjacency.specs.Tables.{table};
 ghost use Rattle.adjacency.specs.Weights.{Weighed, weighted, mask};
@@ -52,7 +52,8 @@ pub fn remove(
     domains[cell] = word;
     let top = pile.top;
     pending[top] = narrow(slot);
-    crate::notes::lessen(count, weights, cell, pattern, floats);
+    let weight = weights[pattern];
+    crate::notes::lessen(weight, cell, floats);
     Pile {
         top: top + 1,
         empty: pile.empty | (word == 0),
@@ -89,7 +90,24 @@ pub fn propagate(
     crate::notes::unmark(cells, marks);
     let mut next = pile;
     while (0 < next.top) & !next.empty {
-        next = crate::propagator::pop(count, offsets, ids, weights, weighted, width, height, mode, noise, cells, domains, counts, pending, floats, marks, next);
+        next = crate::propagator::pop(
+            count,
+            offsets,
+            ids,
+            weights,
+            weighted,
+            width,
+            height,
+            mode,
+            noise,
+            cells,
+            domains,
+            counts,
+            pending,
+            floats,
+            marks,
+            next,
+        );
     }
     next
 }

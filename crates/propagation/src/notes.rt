@@ -1,25 +1,21 @@
 // What is kept beside the domains: a running value for each cell, and the entropy that a removal proposes.
 // Follows docs/RULES.md, "Propagation" and "Entropy".
-ghost use mathlib.Core.Bool.{true};
 ghost use mathlib.Core.List.{List};
 ghost use mathlib.Core.Path.{_≡_};
 ghost use Prim.Native.Nat.{ℕ, _^_, _≤_, _<_};
 ghost use lib.Ieee.{Float};
 ghost use lib.ListN.{length};
-ghost use Rattle.adjacency.specs.Weights.{Weighed, weighted, mask};
-ghost use Rattle.consistency.specs.Worklist.{removal};
+ghost use Rattle.adjacency.specs.Weights.{Weighed, mask};
 ghost use Rattle.propagation.specs.Beside as meaning;
 ghost use Rattle.propagation.specs.Beside.{beside};
 ghost use Rattle.propagation.specs.Lent.{Room, Roomy};
 use logarithms::inner::Note;
 
-// A removal takes its pattern's w log w off the cell's running value; without weight there may be none to take it off.
-pub(crate) fn lessen(count: usize, weights: &[u32], cell: usize, pattern: usize, floats: &mut [f32])
-    requires { ⌜ Weighed count (now weights) × (pattern < count) × (weighted (now weights) pattern ≡ true → cell < length (now floats)) ⌝ }
-    ensures { λ _. ⌜ ((domains marks : List ℕ) → beside (now (floats .exit)) marks
-        ≡ meaning.lessened (now (weights .entry)) (removal cell pattern) domains (beside (now (floats .entry)) marks)) ⌝ }
+// A removal of that weight takes w log w off the cell's running value; without weight there may be none to take it off.
+pub(crate) fn lessen(weight: u32, cell: usize, floats: &mut [f32])
+    requires { ⌜ (weight ≤ 1024) × ((weight ≡ 0 → ⊥) → cell < length (now floats)) ⌝ }
+    ensures { λ _. ⌜ ((marks : List ℕ) → beside (now (floats .exit)) marks ≡ meaning.lessenedBy weight cell (beside (now (floats .entry)) marks)) ⌝ }
 {
-    let weight = weights[pattern];
     if weight != 0 {
         floats[cell] = logarithms::inner::removed(floats[cell], weight);
     }

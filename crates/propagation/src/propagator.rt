@@ -49,8 +49,29 @@ fn remove_and_propose(
         ≡ worklist.remove count (kept (now (weights .entry)) (now (noise .entry)) cells) (removal cell pattern)
         (stateOf count (now (domains .entry)) (now (counts .entry)) (now (pending .entry)) pile (beside (now (floats .entry)) (now (marks .entry)))) ⌝ }
 {
-    let next = crate::inner::remove(count, weights, cell, pattern, domains, counts, pending, floats, pile);
-    crate::notes::propose(count, weights, weighted, noise, cells, cell, pattern, domains[cell], floats, marks);
+    let next = crate::inner::remove(
+        count,
+        weights,
+        cell,
+        pattern,
+        domains,
+        counts,
+        pending,
+        floats,
+        pile,
+    );
+    crate::notes::propose(
+        count,
+        weights,
+        weighted,
+        noise,
+        cells,
+        cell,
+        pattern,
+        domains[cell],
+        floats,
+        marks,
+    );
     next
 }
 
@@ -79,7 +100,21 @@ fn decrement(
         (stateOf count (now (domains .entry)) (now (counts .entry)) (now (pending .entry)) pile (beside (now (floats .entry)) (now (marks .entry)))) ⌝ }
 {
     if crate::num_ways::try_decrement(counts, (cell * count + q) * 4 + d) {
-        return remove_and_propose(count, weights, weighted, noise, cells, cell, q, domains, counts, pending, floats, marks, pile);
+        return remove_and_propose(
+            count,
+            weights,
+            weighted,
+            noise,
+            cells,
+            cell,
+            q,
+            domains,
+            counts,
+            pending,
+            floats,
+            marks,
+            pile,
+        );
     }
     pile
 }
@@ -111,7 +146,22 @@ fn decrements(
     let mut next = pile;
     let mut i = 0;
     while i < list.len() {
-        next = decrement(count, weights, weighted, noise, cells, cell, d, wide(list[i]), domains, counts, pending, floats, marks, next);
+        next = decrement(
+            count,
+            weights,
+            weighted,
+            noise,
+            cells,
+            cell,
+            d,
+            wide(list[i]),
+            domains,
+            counts,
+            pending,
+            floats,
+            marks,
+            next,
+        );
         i += 1;
     }
     next
@@ -148,7 +198,22 @@ fn spread_in(
 {
     let near = grid::inner::neighbour_of(width, height, mode, cell, d);
     match near {
-        Near::Cell(n) => decrements(count, weights, weighted, noise, cells, n, d, adjacency::inner::list_of(count, offsets, ids, p, d), domains, counts, pending, floats, marks, pile),
+        Near::Cell(n) => decrements(
+            count,
+            weights,
+            weighted,
+            noise,
+            cells,
+            n,
+            d,
+            adjacency::inner::list_of(count, offsets, ids, p, d),
+            domains,
+            counts,
+            pending,
+            floats,
+            marks,
+            pile,
+        ),
         Near::Edge => pile,
     }
 }
@@ -184,7 +249,27 @@ fn spread(
     let mut next = pile;
     let mut d = 0;
     while d < 4 {
-        next = spread_in(count, offsets, ids, weights, weighted, width, height, mode, noise, cells, cell, p, d, domains, counts, pending, floats, marks, next);
+        next = spread_in(
+            count,
+            offsets,
+            ids,
+            weights,
+            weighted,
+            width,
+            height,
+            mode,
+            noise,
+            cells,
+            cell,
+            p,
+            d,
+            domains,
+            counts,
+            pending,
+            floats,
+            marks,
+            next,
+        );
         d += 1;
     }
     next
@@ -218,5 +303,27 @@ pub(crate) fn pop(
 {
     let top = pile.top - 1;
     let u = slot(pending[top]);
-    spread(count, offsets, ids, weights, weighted, width, height, mode, noise, cells, u / count, u % count, domains, counts, pending, floats, marks, Pile { top: top, empty: pile.empty })
+    spread(
+        count,
+        offsets,
+        ids,
+        weights,
+        weighted,
+        width,
+        height,
+        mode,
+        noise,
+        cells,
+        u / count,
+        u % count,
+        domains,
+        counts,
+        pending,
+        floats,
+        marks,
+        Pile {
+            top: top,
+            empty: pile.empty,
+        },
+    )
 }

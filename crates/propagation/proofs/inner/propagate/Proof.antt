@@ -65,11 +65,10 @@ loop-again c =
     let head = test .before .before .before in
     let ground = start head .pre .1 .0 in
     let (left, going) = head .loop .inv in
-    let k = called .pop .kept .1 .1 .1 .1 .1 .1 .1 .1 .1 .1 in
-    (
+    let k = called .pop .kept .1 .1 .1 .1 .1 .1 .1 .1 .1 .1 in (
       propagated-turn ground _ (going .lent) _ (test .if1 .taken) (called .pop .ensures) ∙ left,
       going-on going refl (turn-safe ground _ (going .lent) _ (test .if1 .taken) (called .pop .ensures)) (k .0) (k .1 .0) (k .1 .1 .0)
-      (k .1 .1 .1 .0) (k .1 .1 .1 .1 .0),
+          (k .1 .1 .1 .0) (k .1 .1 .1 .1 .0),
     )
 
 same-length : tie.Need-same-length Inv-loop μ-loop

@@ -5,6 +5,7 @@ use native.Mathlib.Omega.{arith}
 use lib.Dec.{lit<}
 use lib.ListN.{length}
 use borrow.Author.Needs.{needs}
+use Rattle.adjacency.proofs.WeightLaws.{true-weighted, weight-light}
 use Rattle.propagation.proofs.LentLaws.{slot-small, place-below, pile-low, remove-is}
 use Rattle.propagation.proofs.inner.remove.Statement.{statement}
 use Rattle.propagation.proofs.inner.remove.Tie as tie
@@ -53,13 +54,20 @@ mul-pending c = omega (arith, low (c .before .before .before .before .before .be
 slice-write-pending : tie.Need-slice-write-pending
 slice-write-pending c = low (c .before .before .before .before .before .before .before .before .before .before .before .before)
 
+mul-weight : tie.Need-mul-weight
+mul-weight c = search needs
+
+shared-slice-read-weight : tie.Need-shared-slice-read-weight
+shared-slice-read-weight c = search needs
+
 lessen-requires : tie.Need-lessen-requires
 lessen-requires c κs =
-    let s = c .before .before .before .before .before .before .before .before .before .before .before .before .before in
-    (s .pre .1 .0 .0, s .pre .1 .1 .1, λ h. omega (arith, s .pre .1 .0 .1 _ h))
+    let s = c .before .before .before .before .before .before .before .before .before .before .before .before .before .before in
+    let (weighed, valued) = s .pre .1 .0 in
+    (weight-light weighed (s .args .pattern), λ n. omega (arith, valued (s .args .pattern) (true-weighted _ _ (omega arith)), s .pre .1 .1 .0))
 
-add-t13 : tie.Need-add-t13
-add-t13 c = omega (arith, low (c .before .before .before .before .before .before .before .before .before .before .before .before .before .before .before .before))
+add-t14 : tie.Need-add-t14
+add-t14 c = omega (arith, low (c .before .before .before .before .before .before .before .before .before .before .before .before .before .before .before .before .before))
 
 same-length : tie.Need-same-length
 same-length c = search needs
@@ -76,7 +84,7 @@ same-length-4 c = search needs
 returns : tie.Need-returns
 returns c =
     let lessened = c .before .before .before in
-    let narrowed = lessened .before .before in
+    let narrowed = lessened .before .before .before in
     let word = narrowed .before in
     let cleared = word .before .before .before .before in
     let s = cleared .before .before .before .before .before .before .before in
@@ -99,8 +107,10 @@ remove-spec =
     narrow-requires
     mul-pending
     slice-write-pending
+    mul-weight
+    shared-slice-read-weight
     lessen-requires
-    add-t13
+    add-t14
     same-length
     same-length-2
     same-length-3

@@ -6,11 +6,11 @@ use native.Mathlib.Omega.{arith}
 use lib.Bits.{bitAnd}
 use borrow.Author.Needs.{needs}
 use Rattle.words.specs.Words.{howMany}
-use Rattle.words.proofs.CountLaws.{many-le}
 use Rattle.adjacency.specs.Weights.{weightSum}
-use Rattle.adjacency.proofs.WeightLaws.{weighed-bounded, weightSum-le}
 use Rattle.propagation.specs.Beside.{weightedIn}
 use Rattle.propagation.specs.Lent.{Roomy}
+use Rattle.words.proofs.CountLaws.{many-le}
+use Rattle.adjacency.proofs.WeightLaws.{weighed-bounded, weightSum-le}
 use Rattle.propagation.proofs.BesideLaws.{weighted-64, proposes-weight, proposing-some, proposing-none}
 use Rattle.propagation.proofs.notes.propose.Statement.{statement}
 use Rattle.propagation.proofs.notes.propose.Tie as tie

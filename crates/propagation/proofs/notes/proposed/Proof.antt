@@ -1,14 +1,12 @@
 -- `propagation::notes::proposed` meets its contract, by whether the cell was noted in this propagation.
 -- Assumes nothing.
 use borrow.Author.Needs.{needs}
-use Rattle.propagation.specs.Beside.{proposed}
-use Rattle.propagation.proofs.BesideLaws.{proposed-later}
+use Rattle.propagation.proofs.BesideLaws.{proposed-first, proposed-later}
 use Rattle.propagation.proofs.notes.proposed.Statement.{statement}
 use Rattle.propagation.proofs.notes.proposed.Tie as tie
 
 returns : tie.Need-returns
-unfolding proposed
-returns c = rw (c .if1 .taken)
+returns c = proposed-first _ _ _ _ (c .if1 .taken)
 
 lowered-requires : tie.Need-lowered-requires
 lowered-requires c κs = search needs

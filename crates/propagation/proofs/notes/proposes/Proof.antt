@@ -1,7 +1,6 @@
 -- `propagation::notes::proposes` meets its contract: what it counts over 64 bits are the patterns of a word of P.
 -- Assumes nothing.
 use mathlib.Core.Path.{_≡_, ap, _∙_}
-use Prim.Native.Nat.{ℕ}
 use lib.Bits.{bitAnd}
 use borrow.Author.Needs.{needs}
 use Rattle.words.specs.Words.{howMany}

@@ -6,11 +6,11 @@ use Prim.Native.Nat.{_-_, _<_}
 use native.Mathlib.Omega.{arith}
 use lib.ListN.{length, drop}
 use Rattle.loops.specs.Loops.{each}
+use Rattle.consistency.specs.Worklist.{decrement}
+use Rattle.propagation.specs.Beside.{kept}
 use Rattle.loops.proofs.LoopLaws.{each-turn, each-end}
 use Rattle.adjacency.proofs.ListLaws.{allBelow-at}
-use Rattle.consistency.specs.Worklist.{decrement}
 use Rattle.consistency.proofs.Keep.{safe-decrement}
-use Rattle.propagation.specs.Beside.{kept}
 use Rattle.propagation.proofs.LentLaws.{lent-safe, memory, stateIn, Going, going-start, going-on}
 use Rattle.propagation.proofs.PropagatorLaws.{decrements-each}
 use Rattle.propagation.proofs.propagator.decrements.Statement.{statement}
@@ -71,11 +71,10 @@ loop-again c =
     let head = test .before in
     let (lent, (room, (hc, hd, below))) = start head .pre in
     let (left, going) = head .loop .inv in
-    let k = called .decrement .kept .1 .1 .1 .1 .1 .1 .1 .1 in
-    (
+    let k = called .decrement .kept .1 .1 .1 .1 .1 .1 .1 .1 in (
       each-turn _ _ (test .loop-test .taken) (wide .wide .ensures) (called .decrement .ensures) left,
       going-on going (called .decrement .ensures) (safe-decrement _ _ _ _ _ _ _ _ hc hd (read wide) (lent-safe (going .lent) _)) (k .0) (k .1 .0) (k .1 .1 .0) (k .1 .1 .1 .0)
-      (k .1 .1 .1 .1 .0),
+          (k .1 .1 .1 .1 .0),
     )
 
 same-length : tie.Need-same-length Inv-loop μ-loop

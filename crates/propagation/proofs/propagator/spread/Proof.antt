@@ -5,11 +5,11 @@ use mathlib.Core.Path.{_≡_, refl, sym, _∙_}
 use Prim.Native.Nat.{_-_}
 use native.Mathlib.Omega.{arith}
 use Rattle.loops.specs.Loops.{steps}
-use Rattle.loops.proofs.LoopLaws.{steps-turn, steps-end}
 use Rattle.adjacency.specs.Tables.{table}
 use Rattle.grid.specs.Grid.{grid}
 use Rattle.consistency.specs.Worklist.{removal, spreadIn}
 use Rattle.propagation.specs.Beside.{kept}
+use Rattle.loops.proofs.LoopLaws.{steps-turn, steps-end}
 use Rattle.propagation.proofs.LentLaws.{lent-safe, memory, stateIn, Going, going-start, going-on}
 use Rattle.propagation.proofs.PropagatorLaws.{spread-steps, ground-spreadIn}
 use Rattle.propagation.proofs.propagator.spread.Statement.{statement}
@@ -60,11 +60,10 @@ loop-again c =
     let head = test .before in
     let (lent, ((ground, hc, hp), room)) = start head .pre in
     let (left, going) = head .loop .inv in
-    let k = called .spread-in .kept .1 .1 .1 .1 .1 .1 .1 .1 .1 .1 .1 .1 .1 in
-    (
+    let k = called .spread-in .kept .1 .1 .1 .1 .1 .1 .1 .1 .1 .1 .1 .1 .1 in (
       steps-turn _ _ (test .loop-test .taken) (called .spread-in .ensures) left,
       going-on going (called .spread-in .ensures) (ground-spreadIn ground _ hc hp (test .loop-test .taken) (lent-safe (going .lent) _)) (k .0) (k .1 .0) (k .1 .1 .0)
-      (k .1 .1 .1 .0) (k .1 .1 .1 .1 .0),
+          (k .1 .1 .1 .0) (k .1 .1 .1 .1 .0),
     )
 
 same-length : tie.Need-same-length Inv-loop μ-loop

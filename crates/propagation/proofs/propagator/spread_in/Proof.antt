@@ -1,7 +1,6 @@
 -- `propagation::propagator::spread_in` meets its contract, by whether there is a neighbour.
 -- Assumes nothing.
 use borrow.Author.Needs.{needs}
-use Rattle.grid.proofs.GridLaws.{neighbour-inside}
 use Rattle.propagation.proofs.PropagatorLaws.{cell-inside, spreadIn-cell, spreadIn-edge}
 use Rattle.propagation.proofs.propagator.spread_in.Statement.{statement}
 use Rattle.propagation.proofs.propagator.spread_in.Tie as tie
