@@ -1,3 +1,6 @@
+pub mod BesideLaws
+pub mod LentLaws
+pub mod PropagatorLaws
 pub mod CountLaws
 pub mod GivenLaws
 pub mod CheckLaws

@@ -13,6 +13,7 @@ mod check;
 mod given;
 mod notes;
 mod num_ways;
+mod propagator;
 mod settle;
 
 // What propagation of starting domains answers.
