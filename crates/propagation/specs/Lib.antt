@@ -1,0 +1,5 @@
+pub mod Supports
+pub mod Beside
+pub mod Lent
+pub mod Propagate
+pub mod Given

@@ -1,0 +1,115 @@
+// What the run calls: the removal of a pattern, and the propagation of what is pending.
+// Follows docs/RULES.md, "Propagation"; stands for `Propagator` and `WaveCell` of the Rust.
+ghost use mathlib.Core.Bool.{true};
+ghost use mathlib.Core.Path.{_≡_};
+ghost use mathlib.Core.List.{List};
+ghost use Prim.Native.Nat.{ℕ, _*_, _<_};
+ghost use lib.ListN.{length};
+ghost use Rattle.adjacency.specs.Tables.{table};
+ghost use Rattle.adjacency.specs.Weights.{Weighed, weighted, mask};
+ghost use Rattle.grid.specs.Grid.{grid};
+ghost use Rattle.consistency.specs.Domains.{possible};
+ghost use Rattle.consistency.specs.Worklist.{removal};
+ghost use Rattle.consistency.specs.Worklist as worklist;
+ghost use Rattle.propagation.specs.Beside.{beside, lessened, kept, unmarked};
+ghost use Rattle.propagation.specs.Lent.{stateOf, Lent, Room, Ground};
+
+pub mod start;
+
+// The pile of removals that are pending: its height, and whether a cell was emptied.
+pub struct Pile {
+    pub top: usize,
+    pub empty: bool,
+}
+
+pub(crate) fn narrow(x: usize) -> u32
+    requires { ⌜ x < 65536 ⌝ }
+    ensures { λ r. ⌜ r ≡ x ⌝ }
+{
+    x as u32
+}
+
+// Removes a pattern that is possible at a cell: the one place where a pattern goes, for forbids, choices and propagation alike.
+pub fn remove(
+    count: usize,
+    weights: &[u32],
+    cell: usize,
+    pattern: usize,
+    domains: &mut [u64],
+    counts: &mut [u8],
+    pending: &mut [u32],
+    floats: &mut [f32],
+    pile: Pile,
+) -> Pile
+    requires { ⌜ Lent count (length (now domains)) (now domains) (now counts) (now pending) pile ⌝ }
+    requires { ⌜ Weighed count (now weights) × ((p : ℕ) → weighted (now weights) p ≡ true → length (now floats) ≡ 2 * length (now domains)) ⌝ }
+    requires { ⌜ (cell < length (now domains)) × (pattern < count) × (possible (now domains) cell pattern ≡ 1) ⌝ }
+    ensures { λ r. ⌜ ((marks : List ℕ) → stateOf count (now (domains .exit)) (now (counts .exit)) (now (pending .exit)) r (beside (now (floats .exit)) marks)
+        ≡ worklist.remove count (lessened (now (weights .entry))) (removal cell pattern)
+        (stateOf count (now (domains .entry)) (now (counts .entry)) (now (pending .entry)) pile (beside (now (floats .entry)) marks))) ⌝ }
+{
+    let slot = cell * count + pattern;
+    crate::num_ways::clear_all_directions(counts, slot * 4);
+    let word = words::inner::without_pattern(domains[cell], pattern);
+    domains[cell] = word;
+    let top = pile.top;
+    pending[top] = narrow(slot);
+    let weight = weights[pattern];
+    crate::notes::lessen(weight, cell, floats);
+    Pile {
+        top: top + 1,
+        empty: pile.empty | (word == 0),
+    }
+}
+
+// Propagates what is pending: pops until the pile is empty or a cell is.
+pub fn propagate(
+    count: usize,
+    offsets: &[u32],
+    ids: &[u8],
+    weights: &[u32],
+    weighted: u64,
+    width: usize,
+    height: usize,
+    mode: usize,
+    noise: &[u32],
+    domains: &mut [u64],
+    counts: &mut [u8],
+    pending: &mut [u32],
+    floats: &mut [f32],
+    marks: &mut [u8],
+    pile: Pile,
+) -> Pile
+    requires { ⌜ Lent count (length (now domains)) (now domains) (now counts) (now pending) pile ⌝ }
+    requires { ⌜ Ground (table count (now offsets) (now ids)) (grid width height mode) (length (now domains)) ⌝ }
+    requires { ⌜ Room count (length (now domains)) (now weights) (now noise) (now floats) (now marks) × (weighted ≡ mask (now weights)) ⌝ }
+    ensures { λ r. ⌜ stateOf count (now (domains .exit)) (now (counts .exit)) (now (pending .exit)) r (beside (now (floats .exit)) (now (marks .exit)))
+        ≡ worklist.propagated (table count (now (offsets .entry)) (now (ids .entry))) (grid width height mode) (kept (now (weights .entry)) (now (noise .entry)) (length (now (domains .entry))))
+        (stateOf count (now (domains .entry)) (now (counts .entry)) (now (pending .entry)) pile
+        (unmarked (length (now (domains .entry))) (beside (now (floats .entry)) (now (marks .entry))))) ⌝ }
+{
+    let cells = domains.len();
+    crate::notes::unmark(cells, marks);
+    let mut next = pile;
+    while (0 < next.top) & !next.empty {
+        next = crate::propagator::pop(
+            count,
+            offsets,
+            ids,
+            weights,
+            weighted,
+            width,
+            height,
+            mode,
+            noise,
+            cells,
+            domains,
+            counts,
+            pending,
+            floats,
+            marks,
+            next,
+        );
+    }
+    next
+}

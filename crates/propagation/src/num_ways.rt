@@ -1,0 +1,33 @@
+// The four support counts of a pattern at a cell, as bytes of a lent slice: `NumWaysToBecomePattern` of the Rust.
+ghost use mathlib.Core.Path.{_≡_};
+ghost use Prim.Native.Nat.{_+_, _<_};
+ghost use lib.ListN.{length};
+ghost use Rattle.consistency.specs.Worklist.{cleared};
+ghost use Rattle.propagation.specs.Supports.{lastWay, loweredAt};
+
+// Takes one support. True where it is the last: then the pattern goes, and clearing its counts is left to its removal.
+pub(crate) fn try_decrement(counts: &mut [u8], at: usize) -> bool
+    requires { ⌜ at < length (now counts) ⌝ }
+    ensures { λ r. ⌜ r ≡ lastWay (now (counts .entry)) at ⌝ }
+    ensures { λ r. ⌜ now (counts .exit) ≡ loweredAt (now (counts .entry)) at ⌝ }
+{
+    let count = counts[at];
+    if count == 1 {
+        return true;
+    }
+    if count != 0 {
+        counts[at] = count - 1;
+    }
+    false
+}
+
+// A pattern that is gone has no supports from any direction.
+pub(crate) fn clear_all_directions(counts: &mut [u8], at: usize)
+    requires { ⌜ at + 3 < length (now counts) ⌝ }
+    ensures { λ _. ⌜ now (counts .exit) ≡ cleared (now (counts .entry)) at ⌝ }
+{
+    counts[at] = 0;
+    counts[at + 1] = 0;
+    counts[at + 2] = 0;
+    counts[at + 3] = 0;
+}
