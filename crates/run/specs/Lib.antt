@@ -1,0 +1,4 @@
+pub mod Observer
+pub mod Choice
+pub mod Run
+pub mod Called
