@@ -1,7 +1,7 @@
 -- Laws of weights: the sum over a word pattern by pattern, over none and over all of them, the word of the weighted patterns,
 -- and what the check of weights gives. Follows docs/RULES.md, "Tables".
 -- Assumes nothing.
-use mathlib.Core.Bool.{Bool, true, false, cond}
+use mathlib.Core.Bool.{Bool, true, false, not, cond}
 use mathlib.Core.List.{List}
 use mathlib.Core.Path.{_≡_, refl, sym, ap, _∙_}
 use Prim.Native.Nat.{ℕ, zero, suc, _+_, _*_, _^_, _≤_, _<_, zero-le}
@@ -11,7 +11,7 @@ use native.Mathlib.Omega.{arith}
 use lib.Bits.{bitAnd, and-le-r}
 use lib.ListN.{length, List·getD-eq-default}
 use lib.Pow.{pow-pos}
-use borrow.Author.Tests.{eqb-true, eqb-false, ltb-false, not-true, not-false, eq-eqb, ne-eqb}
+use borrow.Author.Tests.{eqb-true, eqb-false, ltb-false, not-true, not-false, eq-eqb, ne-eqb, le-ltb}
 use Rattle.words.specs.Words.{bit, without, full}
 use Rattle.adjacency.specs.Weights.{Bounded, Weighed, weightOf, wholeWeight, weightSum, weighted, mask}
 use Rattle.adjacency.specs.Checks.{badWeights, overWeight}
@@ -134,6 +134,10 @@ module _ (ws : List ℕ) where
 pub weighed : (P : ℕ) (ws : List ℕ) → badWeights P ws ≡ false → overWeight ws ≡ false → Weighed P ws
 unfolding badWeights overWeight
 weighed P ws a b = record { one-each = eqb-true _ _ (not-false _ a); light = ltb-false _ _ b }
+
+pub weighed-good : {P : ℕ} {ws : List ℕ} → Weighed P ws → (badWeights P ws ≡ false) × (overWeight ws ≡ false)
+unfolding badWeights overWeight
+weighed-good {P} {ws} h = (ap not (eq-eqb _ _ (h .one-each)), le-ltb _ _ (h .light))
 
 pub weighed-bounded : {P w : ℕ} {ws : List ℕ} → Weighed P ws → P ≤ 64 → w < 2 ^ P → Bounded ws w
 weighed-bounded {P} {w} {ws} h few inside =

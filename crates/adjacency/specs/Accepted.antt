@@ -30,6 +30,8 @@ pub record Laid (t : Table) : Type 0 where
 
 -- what refusal 6 leaves
 pub record Listed (t : Table) : Type 0 where
+  pub first : getD (t .offsets) 0 0 ≡ 0
+  pub last : getD (t .offsets) (4 * t .count) 0 ≡ length (t .ids)
   pub laid : Laid t
   pub filled : (p d : ℕ) → p < t .count → d < 4 → 0 < length (listOf t p d)
   pub ascends : (p d : ℕ) → p < t .count → d < 4 → Ascends (listOf t p d)

@@ -70,10 +70,15 @@ unfoldable pub agreesAt : Table → ℕ → ℕ → Bool
 unfolding every elem listOf opposite
 agreesAt t p d = every (λ q. elem p (listOf t q (opposite d))) (listOf t p d)
 
+-- each list agrees
+unfoldable pub agrees : Table → Bool
+unfolding allTo agreesAt
+agrees t = allTo (4 * t .count) (λ k. agreesAt t (k / 4) (k % 4))
+
 -- two lists disagree
 unfoldable pub disagree : Table → Bool
-unfolding allTo agreesAt
-disagree t = not (allTo (4 * t .count) (λ k. agreesAt t (k / 4) (k % 4)))
+unfolding agrees
+disagree t = not (agrees t)
 
 -- ---- the check of a table: 3, 5, 4, 6, 7
 

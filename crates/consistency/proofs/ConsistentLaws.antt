@@ -7,7 +7,9 @@ use Prim.Native.Nat.{ℕ, zero, suc, _+_, _*_, _<_}
 use native.Mathlib.Omega.{arith}
 use lib.ListN.{length, getD}
 use Rattle.loops.proofs.SumLaws.{sum-ext, sum-le, sum-pos}
+use Rattle.words.specs.Words.{howMany}
 use Rattle.words.proofs.BitLaws.{bit-lt}
+use Rattle.words.proofs.CountLaws.{decided-one}
 use Rattle.directions.specs.Directions.{opposite}
 use Rattle.directions.proofs.DirectionLaws.{opposite-below, opposite-opposite}
 use Rattle.adjacency.specs.Tables.{Table, listOf, inList}
@@ -16,7 +18,7 @@ use Rattle.grid.specs.Grid.{Grid, cells, neighbour}
 use Rattle.grid.proofs.GridLaws.{neighbour-inside}
 use Rattle.consistency.specs.Domains.{possible, filled, Fit}
 use Rattle.consistency.specs.Consistent.{Consistent}
-use Rattle.consistency.proofs.Times.{times, elem-pos, pos-elem, times-sum, times-agree}
+use Rattle.adjacency.proofs.Times.{times, elem-pos, pos-elem, times-sum, times-agree}
 use Rattle.consistency.proofs.DomainLaws.{pattern-below, cell-below, possible-filled, fit-filled}
 use Rattle.consistency.proofs.Counting.{supports, supportsBy, once}
 use Rattle.consistency.proofs.Owed.{netOf}
@@ -81,7 +83,11 @@ module _ (t : Table) (g : Grid) (A : Accepted t) where
       supported-consistent (filled (t .count) (cells g)) (fit-filled (t .count) (cells g))
       (λ n q d hn hq hd _. omega (arith, supports-filled n q d hn hq hd, A .listed .filled q (opposite d) hq (opposite-below d hd)))
 
--- consistent domains violate no list where a neighbour has one pattern only
-pub one-each : (t : Table) (g : Grid) (D : List ℕ) → Consistent t g D → (c p d n q : ℕ) → d < 4 → neighbour g c d ≡ some n → possible D c p ≡ 1
-    → ((r : ℕ) → possible D n r ≡ 1 → r ≡ q) → inList t p d q
-one-each t g D C c p d n q hd e h only = let (r, i, k) = C c p d n hd h e in subst (λ (x : ℕ). inList t p d x) (only r k) i
+-- consistent domains with one pattern per cell violate no list
+pub one-each : (t : Table) (g : Grid) (D : List ℕ) → Fit (t .count) (cells g) D → Consistent t g D
+    → ((c : ℕ) → c < cells g → howMany (t .count) (getD D c 0) ≡ 1)
+    → (c p d n q : ℕ) → d < 4 → neighbour g c d ≡ some n → possible D c p ≡ 1 → possible D n q ≡ 1 → inList t p d q
+one-each t g D F C one c p d n q hd e hp hq =
+    let (r, i, hr) = C c p d n hd hp e in
+    subst (λ (x : ℕ). inList t p d x)
+    (decided-one (t .count) (getD D n 0) q r (pattern-below F n q hq) (pattern-below F n r hr) (one n (cell-below F n q hq)) hq hr) i

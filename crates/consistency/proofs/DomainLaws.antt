@@ -130,3 +130,26 @@ emptied-sub {P} {n} {D} {E} F G h e =
     let (c, k, z) = emptied-at E e in
     at-emptied D c (omega (arith, F .sized, G .sized))
     (word-ext P (F .words c) (pow-pos P) (λ p _. omega (arith, sub-le D E h c p, ap (λ (w : ℕ). bit w p) z, bit-none p)))
+
+-- ---- what is written of domains
+
+pub settled-empty : (D : List ℕ) → emptied D ≡ true → settledAs D ≡ replicate (length D) 0
+unfolding settledAs
+settled-empty D e = rw e
+
+pub settled-whole : (D : List ℕ) → emptied D ≡ false → settledAs D ≡ D
+unfolding settledAs
+settled-whole D e = rw e
+
+pub possible-none : (n c p : ℕ) → possible (replicate n 0) c p ≡ 0
+possible-none zero c p = bit-none p
+possible-none (suc n) zero p = bit-none p
+possible-none (suc n) (suc c) p = possible-none n c p
+
+pub sub-settled : {P n : ℕ} {D E : List ℕ} → Fit P n D → Fit P n E → Sub D E → Sub (settledAs D) (settledAs E)
+sub-settled {P} {n} {D} {E} F G h c p k = go (emptied D) (emptied E) refl refl
+  where
+    go : (a b : Bool) → emptied D ≡ a → emptied E ≡ b → possible (settledAs E) c p ≡ 1
+    go true b e z = absurd (omega (arith, possible-none (length D) c p, rw (settled-empty D e) at k))
+    go false true e z = absurd (false≢true (sym e ∙ emptied-sub F G h z))
+    go false false e z = rw (settled-whole E z) (h c p (rw (settled-whole D e) at k))

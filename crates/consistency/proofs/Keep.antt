@@ -81,11 +81,22 @@ module _ (P n M : ℕ) {X : Type 0} where
   pub safe-more : (M′ : ℕ) → M ≤ M′ → (s : State X) → Safe P n M s → Safe P n M′ s
   safe-more M′ h s S = record { sized = S .sized; fit = S .fit; inside = S .inside; room = omega (arith, S .room); dead = S .dead; told = S .told }
 
-  -- a removal that is popped leaves less to do
-  pub safe-popped : (counts domains : List ℕ) (u : Removal) (us : List Removal) (empty : Bool) (x : X)
-      → Safe P n (suc M) (state counts domains (u ∷ us) empty x) → Safe P n M (state counts domains us empty x)
-  safe-popped counts domains u us empty x S =
-      record { sized = S .sized; fit = S .fit; inside = S .inside .2; room = omega (arith, S .room); dead = S .dead; told = S .told }
+  module _ (s : State X) (u : Removal) (us : List Removal) (e : s .pending ≡ u ∷ us) where
+    -- a removal that is pending is of the grid
+    pub pending-inside : Safe P n M s → (u .cell < n) × (u .pattern < P)
+    pending-inside S = let i = subst (λ (l : List Removal). Inside P n l) e (S .inside) in (i .0, i .1)
+
+    -- popped, it leaves less to do
+    pub safe-popped : Safe P n (suc M) s → Safe P n M (popped us s)
+    safe-popped S =
+        record {
+          sized = S .sized;
+          fit = S .fit;
+          inside = subst (λ (l : List Removal). Inside P n l) e (S .inside) .2;
+          room = omega (arith, S .room, ap length e);
+          dead = S .dead;
+          told = S .told;
+        }
 
   -- a pattern with supports is possible
   pub counted-possible : (s : State X) → Safe P n M s → (c q d : ℕ) → c < n → q < P → d < 4 → 0 < getD (s .counts) (place P c q d) 0
@@ -95,6 +106,11 @@ module _ (P n M : ℕ) {X : Type 0} where
         | yes z ↦ absurd (omega (arith, S .dead c q d hc hq hd z))
         | no z ↦ omega (arith, bit-lt (getD (s .domains) c 0) q)
       ]
+
+  -- where a pattern is possible there is room for its removal
+  pub room-left : (s : State X) → Safe P n M s → (c p : ℕ) → c < n → p < P → possible (s .domains) c p ≡ 1 → length (s .pending) < M
+  room-left s S c p hc hp h =
+      omega (arith, S .room, total-less P n (s .domains) (removed (s .domains) c p) c p hc hp (removed-less (s .domains) c p h))
 
   module _ (keep : Removal → List ℕ → X → X) where
     pub safe-remove : (u : Removal) (s : State X) → u .cell < n → u .pattern < P → possible (s .domains) (u .cell) (u .pattern) ≡ 1
@@ -186,12 +202,23 @@ module _ (t : Table) (g : Grid) (A : Accepted t) {X : Type 0} (keep : Removal �
       safe-spreadIn M u 3 _ hc hp (lit< tt)
       (safe-spreadIn M u 2 _ hc hp (lit< tt) (safe-spreadIn M u 1 _ hc hp (lit< tt) (safe-spreadIn M u 0 s hc hp (lit< tt) S)))
 
-  -- one turn of the work list
-  safe-turn : (M : ℕ) (counts domains : List ℕ) (u : Removal) (us : List Removal) (empty : Bool) (x : X)
-      → Safe (t .count) (cells g) (suc M) (state counts domains (u ∷ us) empty x)
-      → Safe (t .count) (cells g) M (spread t g keep u (state counts domains us empty x))
-  safe-turn M counts domains u us empty x S =
-      safe-spread M u _ (S .inside .0) (S .inside .1) (safe-popped (t .count) (cells g) M counts domains u us empty x S)
+  -- a turn of the work list: the last removal is popped and spread
+  module _ (s : State X) (u : Removal) (us : List Removal) (e : s .pending ≡ u ∷ us) where
+    pub safe-turn : (M : ℕ) → Safe (t .count) (cells g) (suc M) s → Safe (t .count) (cells g) M (spread t g keep u (popped us s))
+    safe-turn M S =
+        let (hc, hp) = pending-inside (t .count) (cells g) (suc M) s u us e S in
+        safe-spread M u (popped us s) hc hp (safe-popped (t .count) (cells g) M s u us e S)
+
+    -- it leaves fewer removals to come
+    pub turn-less : (M : ℕ) → Safe (t .count) (cells g) M s
+        → length ((spread t g keep u (popped us s)) .pending) + total (t .count) (cells g) ((spread t g keep u (popped us s)) .domains)
+        < length (s .pending) + total (t .count) (cells g) (s .domains)
+    turn-less M S =
+        let W = length us + total (t .count) (cells g) (s .domains) in
+        let tight : Safe (t .count) (cells g) (suc W) s =
+        record { sized = S .sized; fit = S .fit; inside = S .inside; room = omega (arith, ap length e); dead = S .dead; told = S .told }
+        in
+        omega (arith, safe-turn W tight .room, ap length e)
 
   safe-run : (M f : ℕ) (counts domains : List ℕ) (l : List Removal) (empty : Bool) (x : X)
       → Safe (t .count) (cells g) M (state counts domains l empty x) → Safe (t .count) (cells g) M (propagate t g keep f (state counts domains l empty x))
@@ -203,7 +230,7 @@ module _ (t : Table) (g : Grid) (A : Accepted t) {X : Type 0} (keep : Removal �
   safe-run (suc M) (suc f) counts domains (u ∷ us) false x S =
       let s = spread t g keep u (state counts domains us false x) in
       safe-more (t .count) (cells g) M (suc M) (omega arith) _
-      (safe-run M f (s .counts) (s .domains) (s .pending) (s .empty) (s .beside) (safe-turn M counts domains u us false x S))
+      (safe-run M f (s .counts) (s .domains) (s .pending) (s .empty) (s .beside) (safe-turn (state counts domains (u ∷ us) false x) u us refl M S))
 
   pub safe-propagate : (M f : ℕ) (s : State X) → Safe (t .count) (cells g) M s → Safe (t .count) (cells g) M (propagate t g keep f s)
   safe-propagate M f s S = safe-run M f (s .counts) (s .domains) (s .pending) (s .empty) (s .beside) S
@@ -223,7 +250,7 @@ module _ (t : Table) (g : Grid) (A : Accepted t) {X : Type 0} (keep : Removal �
   enough (suc M) (suc f) h counts domains (u ∷ us) true x S = refl
   enough (suc M) (suc f) h counts domains (u ∷ us) false x S =
       let s = spread t g keep u (state counts domains us false x) in
-      enough M f (omega arith) (s .counts) (s .domains) (s .pending) (s .empty) (s .beside) (safe-turn M counts domains u us false x S)
+      enough M f (omega arith) (s .counts) (s .domains) (s .pending) (s .empty) (s .beside) (safe-turn (state counts domains (u ∷ us) false x) u us refl M S)
 
   -- any two fuels that are enough lead to the same end
   pub propagate-fuel : (M f f′ : ℕ) → M ≤ f → M ≤ f′ → (s : State X) → Safe (t .count) (cells g) M s → propagate t g keep f s ≡ propagate t g keep f′ s
@@ -250,7 +277,7 @@ module _ (t : Table) (g : Grid) (A : Accepted t) {X : Type 0} (keep : Removal �
   one-turn zero f h counts domains u us x S = absurd (omega (arith, S .room))
   one-turn (suc M) zero h counts domains u us x S = absurd (omega arith)
   one-turn (suc M) (suc f) h counts domains u us x S =
-      propagate-fuel M f (suc f) (omega arith) (omega arith) (spread t g keep u (state counts domains us false x)) (safe-turn M counts domains u us false x S)
+      propagate-fuel M f (suc f) (omega arith) (omega arith) (spread t g keep u (state counts domains us false x)) (safe-turn (state counts domains (u ∷ us) false x) u us refl M S)
 
   module _ (f : ℕ) (s : State X) where
     -- where nothing is pending it has ended
@@ -272,6 +299,6 @@ module _ (t : Table) (g : Grid) (A : Accepted t) {X : Type 0} (keep : Removal �
     propagate-step M h S u us e z =
         subst₂
         (λ (l : List Removal) (b : Bool). Safe (t .count) (cells g) M (state (s .counts) (s .domains) l b (s .beside))
-          → propagate t g keep f (state (s .counts) (s .domains) l b (s .beside))
-          ≡ propagate t g keep f (spread t g keep u (state (s .counts) (s .domains) us b (s .beside))))
+        → propagate t g keep f (state (s .counts) (s .domains) l b (s .beside))
+        ≡ propagate t g keep f (spread t g keep u (state (s .counts) (s .domains) us b (s .beside))))
         (sym e) (sym z) (one-turn M f h (s .counts) (s .domains) u us (s .beside)) S

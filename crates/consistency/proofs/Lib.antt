@@ -1,4 +1,3 @@
-pub mod Times
 pub mod DomainLaws
 pub mod Counting
 pub mod Owed
@@ -6,3 +5,11 @@ pub mod Keep
 pub mod Steps
 pub mod ConsistentLaws
 pub mod Settled
+pub mod RemovalLaws
+pub mod LessenedLaws
+pub mod GreatestLaws
+pub mod StartLaws
+pub mod SettledLaws
+pub mod Given
+pub mod Parts
+pub mod Cases

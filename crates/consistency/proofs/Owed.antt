@@ -18,7 +18,7 @@ use Rattle.adjacency.specs.Accepted.{AllBelow, Accepted}
 use Rattle.grid.specs.Grid.{Grid, cells, neighbour}
 use Rattle.grid.proofs.GridLaws.{neighbour-inside, neighbour-opposite}
 use Rattle.consistency.specs.Worklist.{Removal, place}
-use Rattle.consistency.proofs.Times.{times}
+use Rattle.adjacency.proofs.Times.{times}
 use Rattle.consistency.proofs.Counting.{Net, gives, gives-yes, gives-no, place-inj}
 
 -- the table and the grid as a net of supports

@@ -46,7 +46,7 @@ module _ (t : Table) (g : Grid) (A : Accepted t) {X : Type 0} (keep : Removal �
   unfolding owed
   exact-popped M counts domains u us empty x E =
       record {
-        safe = safe-popped (t .count) (cells g) M counts domains u us empty x (E .safe);
+        safe = safe-popped (t .count) (cells g) M (state counts domains (u ∷ us) empty x) u us refl (E .safe);
         counted =
             counted-by (netOf t g) (possible domains) (λ k. getD counts k 0) _ _
             (λ n q d hn hq hd. omega (arith, due-of t g A u (E .safe .inside .0) (E .safe .inside .1) n q hn hq nothing-due d hd)) (E .counted);

@@ -2,4 +2,5 @@ pub mod Domains
 pub mod Consistent
 pub mod Worklist
 pub mod Start
+pub mod Parts
 pub mod Safe

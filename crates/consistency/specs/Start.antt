@@ -5,7 +5,7 @@ use mathlib.Core.List.{List, [], _∷_, _++_}
 use Prim.Native.Nat.{ℕ, zero, suc, _+_, _*_, _/_, _%_}
 use lib.Dec.{eqb}
 use lib.ListN.{length}
-use Rattle.words.specs.Words.{has}
+use Rattle.words.specs.Words.{has, full}
 use Rattle.directions.specs.Directions.{opposite}
 use Rattle.adjacency.specs.Tables.{Table, listOf}
 use Rattle.grid.specs.Grid.{Grid, cells}
@@ -24,25 +24,24 @@ startCounts t n = tabulated 0 (n * t .count * 4) (λ i. length (listOf t (i / 4 
 
 -- all full, nothing pending
 unfoldable pub start : (t : Table) (g : Grid) {X : Type 0} → X → State X
-unfolding startCounts
+unfolding startCounts full
 start t g x = state (startCounts t (cells g)) (filled (t .count) (cells g)) [] false x
 
--- the patterns that a word lacks, of the n from i on, ascending, as removals at cell c
-unfoldable pub gaps : ℕ → ℕ → ℕ → ℕ → List Removal
-unfolding has
-gaps zero i c w = []
-gaps (suc n) i c w = cond (has w i) (gaps n (suc i) c w) (removal c i ∷ gaps n (suc i) c w)
+-- the patterns that fail a test, of the n from i on, ascending, as removals at cell c
+unfoldable pub failing : (ℕ → Bool) → ℕ → ℕ → ℕ → List Removal
+failing test zero i c = []
+failing test (suc n) i c = cond (test i) (failing test n (suc i) c) (removal c i ∷ failing test n (suc i) c)
+
+-- all of P patterns but p at cell c: what keeping only p there removes
+unfoldable pub others : ℕ → ℕ → ℕ → List Removal
+unfolding failing
+others P c p = failing (λ i. eqb i p) P 0 c
 
 -- the patterns of P that starting domains lack, the first word being cell c's
 unfoldable pub missing : ℕ → ℕ → List ℕ → List Removal
-unfolding gaps
+unfolding failing has
 missing P c [] = []
-missing P c (w ∷ D) = gaps P 0 c w ++ missing P (suc c) D
-
--- all patterns but p at cell c, ascending: what keeping only p there removes
-unfoldable pub others : ℕ → ℕ → ℕ → ℕ → List Removal
-others zero i c p = []
-others (suc n) i c p = cond (eqb i p) (others n (suc i) c p) (removal c i ∷ others n (suc i) c p)
+missing P c (w ∷ D) = failing (has w) P 0 c ++ missing P (suc c) D
 
 -- all full, then the removals, then propagated
 unfoldable pub reduced : (t : Table) (g : Grid) {X : Type 0} → (Removal → List ℕ → X → X) → X → List Removal → State X

@@ -48,6 +48,7 @@ popped us s = state (s .counts) (s .domains) us (s .empty) (s .beside)
 module _ (P : ℕ) {X : Type 0} (keep : Removal → List ℕ → X → X) where
   -- a pattern goes: its four supports are cleared, its bit is, and the removal is pending; an emptied cell is never overlooked
   unfoldable pub remove : Removal → State X → State X
+  unfolding without
   remove u s =
       record {
         counts = cleared (s .counts) (place P (u .cell) (u .pattern) 0);

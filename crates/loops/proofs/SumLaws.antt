@@ -62,6 +62,12 @@ unfolding sumTo
 sum-le zero f i h = omega arith
 sum-le (suc n) f i h = elim (ℕ-discrete i n) [ yes e ↦ omega (arith, ap f e) | no e ↦ omega (arith, sum-le n f i (omega arith)) ]
 
+-- n terms of at most b are n times b at most
+pub sum-most : (n b : ℕ) (f : ℕ → ℕ) → ((i : ℕ) → i < n → f i ≤ b) → sumTo n f ≤ n * b
+unfolding sumTo
+sum-most zero b f h = zero-le
+sum-most (suc n) b f h = omega (arith, sum-most n b f (λ i k. h i (omega arith)), h n (le-refl (suc n)))
+
 pub sum-pos : (n : ℕ) (f : ℕ → ℕ) → 0 < sumTo n f → (i : ℕ) × (i < n) × (0 < f i)
 unfolding sumTo
 sum-pos zero f h = absurd (omega arith)

@@ -110,6 +110,15 @@ every-elem f (y ∷ l) t x h =
       | no e ↦ every-elem f l (and-r (f y) (every f l) t) x (rw (ne-eqb x y e) at h)
     ]
 
+pub every-of : (f : ℕ → Bool) (l : List ℕ) → ((x : ℕ) → T (elem x l) → T (f x)) → T (every f l)
+unfolding every elem
+every-of f [] h = tt
+every-of f (y ∷ l) h = and-i (f y) (every f l) (h y (rw (eq-eqb y y refl) tt)) (every-of f l (λ x i. h x (later (eqb x y) (elem x l) i)))
+  where
+    later : (b c : Bool) → T c → T (b || c)
+    later true c i = tt
+    later false c i = i
+
 -- ---- an entry that is looked for
 
 module _ (x : ℕ) (l : List ℕ) {R : Bool} where

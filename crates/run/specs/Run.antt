@@ -64,7 +64,7 @@ reducedBy i us s =
 -- what a forbid asks to go: its pattern, or all others
 unfoldable pub asked : ℕ → Forbid → List Removal
 unfolding others
-asked P f = cond (eqb (f .keep) 0) (removal (f .cell) (f .pattern) ∷ []) (others P 0 (f .cell) (f .pattern))
+asked P f = cond (eqb (f .keep) 0) (removal (f .cell) (f .pattern) ∷ []) (others P (f .cell) (f .pattern))
 
 -- a pattern that is to be kept and is gone leaves none: the others go, and the cell is empty
 unfoldable pub laid : Given → Forbid → State Beside → State Beside
@@ -109,7 +109,7 @@ still used s = ended (cond (decided (s .domains)) 0 1) used (s .domains)
 unfoldable pub chosen : Given → ℕ → Option ℕ → State Beside → State Beside
 unfolding reducedBy others
 chosen i c none s = s
-chosen i c (some p) s = reducedBy i (others (i .table .count) 0 c p) s
+chosen i c (some p) s = reducedBy i (others (i .table .count) c p) s
 
 -- what one turn comes to: the run is over, or it goes on with so many words used
 pub data Turn : Type 0 where

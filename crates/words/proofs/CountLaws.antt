@@ -66,3 +66,12 @@ pub many-alone : (k p : ℕ) → p < k → howMany k (alone p) ≡ 1
 unfolding howMany
 many-alone k p h =
     omega (arith, sum-at k (bit (alone p)) (bit 0) p h (λ q l n. bit-alone-other p q n ∙ sym (bit-none q)), bit-alone p, bit-none p, sum-zero k (bit 0) (λ q l. bit-none q))
+
+-- a word with one pattern has no other
+pub decided-one : (k w p q : ℕ) → p < k → q < k → howMany k w ≡ 1 → bit w p ≡ 1 → bit w q ≡ 1 → q ≡ p
+unfolding howMany
+decided-one k w p q hp hq e a b =
+    elim (ℕ-discrete q p) [
+      | yes z ↦ z
+      | no n ↦ absurd (omega (arith, many-without k w p hp, sum-le k (bit (without w p)) q hq, bit-without-other w p q n))
+    ]

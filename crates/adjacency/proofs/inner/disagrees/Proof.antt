@@ -7,7 +7,7 @@ use native.Mathlib.Omega.{arith}
 use borrow.Author.Tests.{not-true, not-false}
 use Rattle.loops.specs.Tests.{allTo}
 use Rattle.adjacency.specs.Tables.{table}
-use Rattle.adjacency.specs.Checks.{agreesAt, disagree}
+use Rattle.adjacency.specs.Checks.{agreesAt, agrees, disagree}
 use Rattle.loops.proofs.TestLaws.{all-none, all-more, all-fails, all-end}
 use Rattle.adjacency.proofs.inner.disagrees.Statement.{statement}
 use Rattle.adjacency.proofs.inner.disagrees.Tie as tie
@@ -28,7 +28,7 @@ agrees-at-requires : tie.Need-agrees-at-requires Inv-loop μ-loop
 agrees-at-requires c κs = (c .before .before .before .before .pre, omega arith, omega arith)
 
 returns : tie.Need-returns Inv-loop μ-loop
-unfolding disagree
+unfolding disagree agrees
 returns c = sym (ap not (all-fails _ _ _ (c .before .before .loop-test .taken) (sym (c .before .agrees-at .ensures) ∙ not-true _ (c .if1 .taken))))
 
 add-k : tie.Need-add-k Inv-loop μ-loop
@@ -41,7 +41,7 @@ loop-again : tie.Need-loop-again Inv-loop μ-loop
 loop-again c = (omega arith, all-more _ _ (c .before .before .before .loop .inv .1) (sym (c .before .agrees-at .ensures) ∙ not-false _ (c .if1 .left)))
 
 returns-2 : tie.Need-returns-2 Inv-loop μ-loop
-unfolding disagree
+unfolding disagree agrees
 returns-2 c = sym (ap not (all-end _ _ _ (c .before .loop .inv .0) (c .loop-test .left) (c .before .loop .inv .1)))
 
 pub disagrees-spec : {M : Type 1} → statement M

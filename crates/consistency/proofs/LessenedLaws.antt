@@ -1,0 +1,69 @@
+-- Laws of domains less some removals: what is left possible, in which order and how often they go does not matter, and that the work list's
+-- forbids leave it. Assumes nothing.
+use mathlib.Core.Path.{_≡_, refl, sym, ap, _∙_}
+use mathlib.Core.List.{List, [], _∷_, _++_}
+use mathlib.Core.Logic.{_↔_}
+use Prim.Native.Nat.{ℕ, zero, suc, _<_}
+use native.Mathlib.Decide.{ℕ-discrete}
+use native.Mathlib.Omega.{arith}
+use lib.ListN.{getD, set}
+use lib.Seq.{set-getD}
+use Rattle.words.proofs.ChangeLaws.{without-unset}
+use Rattle.consistency.specs.Domains.{possible, removed, Fit, Sub}
+use Rattle.consistency.specs.Worklist.{Removal, State, remove, forbidAt, forbid, forbids}
+use Rattle.consistency.specs.Parts.{lessened, Spared, Alike}
+use Rattle.consistency.proofs.DomainLaws.{possible-removed, possible-removed-other, fit-removed, sub-antisym}
+
+pub fit-lessened : {P n : ℕ} (us : List Removal) {D : List ℕ} → Fit P n D → Fit P n (lessened us D)
+unfolding lessened
+fit-lessened [] F = F
+fit-lessened (u ∷ us) F = fit-lessened us (fit-removed F (u .cell) (u .pattern))
+
+pub lessened-append : (us vs : List Removal) (D : List ℕ) → lessened (us ++ vs) D ≡ lessened vs (lessened us D)
+unfolding lessened
+lessened-append [] vs D = refl
+lessened-append (u ∷ us) vs D = lessened-append us vs (removed D (u .cell) (u .pattern))
+
+-- what is left possible is what was and is spared
+possible-less : (D : List ℕ) (c p m r : ℕ) → (possible (removed D c p) m r ≡ 1) ↔ ((m ≡ c → r ≡ p → ⊥) × (possible D m r ≡ 1))
+possible-less D c p m r =
+    (λ h. (away h, sym (possible-removed-other D c p m r (away h)) ∙ h), λ h. possible-removed-other D c p m r (h .0) ∙ h .1)
+  where
+    away : possible (removed D c p) m r ≡ 1 → m ≡ c → r ≡ p → ⊥
+    away h e₁ e₂ =
+        omega (arith, possible-removed D c p, ap (λ (x : ℕ). possible (removed D c p) x r) e₁, ap (λ (x : ℕ). possible (removed D c p) c x) e₂)
+
+pub possible-lessened : (us : List Removal) (D : List ℕ) (c p : ℕ) → (possible (lessened us D) c p ≡ 1) ↔ (Spared us c p × (possible D c p ≡ 1))
+unfolding lessened
+possible-lessened [] D c p = (λ h. (tt, h), λ h. h .1)
+possible-lessened (u ∷ us) D c p =
+    let k = possible-lessened us (removed D (u .cell) (u .pattern)) c p in
+    let j = possible-less D (u .cell) (u .pattern) c p in
+    (λ h. let (a, b) = k .0 h in ((j .0 b .0, a), j .0 b .1), λ h. k .1 (h .0 .1, j .1 (h .0 .0, h .1)))
+
+pub sub-lessened : (us : List Removal) (D : List ℕ) → Sub (lessened us D) D
+sub-lessened us D c p h = possible-lessened us D c p .0 h .1
+
+-- the same removals leave the same
+pub lessened-alike : {P n : ℕ} (us vs : List Removal) {D : List ℕ} → Fit P n D → Alike us vs → lessened us D ≡ lessened vs D
+lessened-alike us vs {D} F a = sub-antisym (fit-lessened us F) (fit-lessened vs F) (less us vs (λ c p. a c p .0)) (less vs us (λ c p. a c p .1))
+  where
+    less : (us vs : List Removal) → ((c p : ℕ) → Spared us c p → Spared vs c p) → Sub (lessened us D) (lessened vs D)
+    less us vs f c p h = let (k, l) = possible-lessened us D c p .0 h in possible-lessened vs D c p .1 (f c p k, l)
+
+-- ---- forbids
+
+module _ (P : ℕ) {X : Type 0} (keep : Removal → List ℕ → X → X) where
+  forbidAt-removed : (b : ℕ) (u : Removal) (s : State X) → possible (s .domains) (u .cell) (u .pattern) ≡ b
+      → (forbidAt P keep b u s) .domains ≡ removed (s .domains) (u .cell) (u .pattern)
+  unfolding forbidAt remove
+  forbidAt-removed zero u s e =
+      sym (ap (λ (w : ℕ). set (s .domains) (u .cell) w) (without-unset _ _ e) ∙ set-getD (s .domains) (u .cell) 0)
+  forbidAt-removed (suc b) u s e = refl
+
+  -- forbids leave what they do not ask for
+  pub forbids-lessened : (us : List Removal) (s : State X) → (forbids P keep us s) .domains ≡ lessened us (s .domains)
+  unfolding forbids forbid lessened
+  forbids-lessened [] s = refl
+  forbids-lessened (u ∷ us) s =
+      forbids-lessened us (forbid P keep u s) ∙ ap (lessened us) (forbidAt-removed (possible (s .domains) (u .cell) (u .pattern)) u s refl)
