@@ -30,56 +30,88 @@ forbid cell pattern = record { cell = cell; pattern = pattern; keep = 0 }
 abbrev pub keepOnly : ℕ → ℕ → Forbid
 keepOnly cell pattern = record { cell = cell; pattern = pattern; keep = 1 }
 
--- a call with noise words 0, and the end, the words used and the domains that it comes to
-pub record Case : Type 0 where
+-- what a call is given; the noise words are 0
+pub record Call : Type 0 where
   pub table : Table
   pub weights : List ℕ
   pub grid : Grid
   pub forbids : List Forbid
   pub words : List ℕ
+
+abbrev pub call : Table → List ℕ → Grid → List Forbid → List ℕ → Call
+call table weights grid forbids words = record { table = table; weights = weights; grid = grid; forbids = forbids; words = words }
+
+-- lent slices of the published lengths, whose entries are n and x but for the domains
+abbrev pub lent : Call → ℕ → Float → List ℕ → Memory
+lent k n x domains =
+    let cs = cells (k .grid) in
+    let P = k .table .count in
+    memory domains (replicate (cs * P * 4) n) (replicate (cs * P) n) (replicate (2 * cs) x) (replicate (2 * cs) n)
+
+-- what it comes to, on memory that is full of sevens
+unfoldable pub found : Call → Outcome
+unfolding called
+found k =
+    called (record { table = k .table; weights = k .weights; grid = k .grid; noise = replicate (cells (k .grid)) 0; words = k .words }) (k .forbids)
+    (lent k 7 (ofBits binary32 7) (replicate (cells (k .grid)) 7))
+
+-- a call with the end, the words used and the domains that it must come to
+pub record Case : Type 0 where
+  pub asked : Call
   pub end : ℕ
   pub used : ℕ
   pub domains : List ℕ
 
-abbrev pub case : Table → List ℕ → Grid → List Forbid → List ℕ → ℕ → ℕ → List ℕ → Case
-case table weights grid forbids words end used domains =
-    record { table = table; weights = weights; grid = grid; forbids = forbids; words = words; end = end; used = used; domains = domains }
+abbrev pub case : Call → ℕ → ℕ → List ℕ → Case
+case asked end used domains = record { asked = asked; end = end; used = used; domains = domains }
 
--- slices of the published lengths, filled with the numbers given
-abbrev pub lent : Table → Grid → ℕ → Float → List ℕ → Memory
-lent t g n x domains = memory domains (replicate (cells g * t .count * 4) n) (replicate (cells g * t .count) n) (replicate (2 * cells g) x) (replicate (2 * cells g) n)
-
--- what the call comes to, on memory that holds anything
-unfoldable pub found : Case → Outcome
-unfolding called
-found k =
-    called (record { table = k .table; weights = k .weights; grid = k .grid; noise = replicate (cells (k .grid)) 0; words = k .words }) (k .forbids)
-    (lent (k .table) (k .grid) 7 (ofBits binary32 7) (replicate (cells (k .grid)) 7))
-
--- what is stated: the end and the words used, the domains, and zeros
+-- these, and zeros
 unfoldable pub stated : Case → Outcome
-stated k = record { told = answer (record { end = k .end; used = k .used }); memory = lent (k .table) (k .grid) 0 (ofBits binary32 0) (k .domains) }
+stated k = record { told = answer (record { end = k .end; used = k .used }); memory = lent (k .asked) 0 (ofBits binary32 0) (k .domains) }
+
+-- every case comes to what is stated
+abbrev pub Hold : List Case → Type 0
+Hold ks = map (λ k. found (k .asked)) ks ≡ map stated ks
+
+-- calls that are cited by name
+abbrev pub A : Call
+A = call checker (1 ∷ 1 ∷ []) (grid 2 1 0) (keepOnly 0 0 ∷ []) []
+
+abbrev pub B : Call
+B = call checker (1 ∷ 1 ∷ []) (grid 3 1 0) (keepOnly 0 0 ∷ []) []
+
+abbrev pub G : Call
+G = call free (1 ∷ 1 ∷ 1 ∷ []) (grid 1 1 0) [] (4 ∷ [])
+
+abbrev pub H : Call
+H = call free (1 ∷ 1 ∷ 1 ∷ []) (grid 1 1 0) [] []
+
+abbrev pub I : Call
+I = call free (1 ∷ 1 ∷ 1 ∷ []) (grid 1 1 0) (forbid 0 2 ∷ []) (4 ∷ [])
+
+abbrev pub K : ℕ → Call
+K word = call checker (2 ∷ 3 ∷ []) (grid 1 1 0) [] (word ∷ [])
 
 -- Decided is 0, Undecided 1, Paused 2, Contradiction 3
 unfoldable pub cases : List Case
 cases =
-    case checker (1 ∷ 1 ∷ []) (grid 2 1 0) (keepOnly 0 0 ∷ []) [] 0 0 (1 ∷ 2 ∷ [])  -- A
-    ∷ case checker (1 ∷ 1 ∷ []) (grid 3 1 0) (keepOnly 0 0 ∷ []) [] 0 0 (1 ∷ 2 ∷ 1 ∷ [])  -- B
-    ∷ case checker (1 ∷ 1 ∷ []) (grid 3 1 1) (keepOnly 0 0 ∷ []) [] 3 0 (0 ∷ 0 ∷ 0 ∷ [])  -- C
-    ∷ case checker (1 ∷ 1 ∷ []) (grid 1 1 1) [] [] 2 0 (3 ∷ [])  -- D: it stays, though no assignment exists
-    ∷ case checker (1 ∷ 1 ∷ []) (grid 1 1 1) (keepOnly 0 0 ∷ []) [] 3 0 (0 ∷ [])  -- E
-    ∷ case checker (1 ∷ 1 ∷ []) (grid 1 1 0) (keepOnly 0 0 ∷ []) [] 0 0 (1 ∷ [])  -- F
-    ∷ case free (1 ∷ 1 ∷ 1 ∷ []) (grid 1 1 0) [] (4 ∷ []) 0 1 (2 ∷ [])  -- G
-    ∷ case free (1 ∷ 1 ∷ 1 ∷ []) (grid 1 1 0) [] [] 2 0 (7 ∷ [])  -- H: G without words
-    ∷ case free (1 ∷ 1 ∷ 1 ∷ []) (grid 1 1 0) (forbid 0 2 ∷ []) (4 ∷ []) 1 0 (3 ∷ [])  -- I: the note is stale
-    ∷ case checker (0 ∷ 0 ∷ []) (grid 1 1 0) [] [] 1 0 (3 ∷ [])  -- J
-    ∷ case checker (2 ∷ 3 ∷ []) (grid 1 1 0) [] (1 ∷ []) 0 1 (1 ∷ [])  -- K, in a run
-    ∷ case checker (2 ∷ 3 ∷ []) (grid 1 1 0) [] (2 ∷ []) 0 1 (2 ∷ [])
-    ∷ case checker (2 ∷ 3 ∷ []) (grid 1 1 0) [] (4 ∷ []) 0 1 (2 ∷ [])
-    ∷ case checker (2 ∷ 3 ∷ []) (grid 1 1 0) [] (5 ∷ []) 0 1 (1 ∷ [])
+    case A 0 0 (1 ∷ 2 ∷ [])
+    ∷ case B 0 0 (1 ∷ 2 ∷ 1 ∷ [])
+    ∷ case (call checker (1 ∷ 1 ∷ []) (grid 3 1 1) (keepOnly 0 0 ∷ []) []) 3 0 (0 ∷ 0 ∷ 0 ∷ [])  -- C
+    ∷ case (call checker (1 ∷ 1 ∷ []) (grid 1 1 1) [] []) 2 0 (3 ∷ [])  -- D: it stays, though no assignment exists
+    ∷ case (call checker (1 ∷ 1 ∷ []) (grid 1 1 1) (keepOnly 0 0 ∷ []) []) 3 0 (0 ∷ [])  -- E
+    ∷ case (call checker (1 ∷ 1 ∷ []) (grid 1 1 0) (keepOnly 0 0 ∷ []) []) 0 0 (1 ∷ [])  -- F
+    ∷ case G 0 1 (2 ∷ [])
+    ∷ case H 2 0 (7 ∷ [])
+    ∷ case I 1 0 (3 ∷ [])  -- the note is stale
+    ∷ case (call checker (0 ∷ 0 ∷ []) (grid 1 1 0) [] []) 1 0 (3 ∷ [])  -- J
+    ∷ case (K 1) 0 1 (1 ∷ [])
+    ∷ case (K 2) 0 1 (2 ∷ [])
+    ∷ case (K 4) 0 1 (2 ∷ [])
+    ∷ case (K 5) 0 1 (1 ∷ [])
     ∷ []
 
 -- every case of the table holds, and K asked apart from a run too
-pub cases-hold : (map found cases ≡ map stated cases) × (map (choiceOf (2 ∷ 3 ∷ []) 3) (1 ∷ 2 ∷ 4 ∷ 5 ∷ []) ≡ map some (0 ∷ 1 ∷ 1 ∷ 0 ∷ []))
+pub cases-hold : Hold cases × (map (choiceOf (2 ∷ 3 ∷ []) 3) (1 ∷ 2 ∷ 4 ∷ 5 ∷ []) ≡ map some (0 ∷ 1 ∷ 1 ∷ 0 ∷ []))
 unfolding cases found stated choiceOf
 cases-hold = (refl, refl)
