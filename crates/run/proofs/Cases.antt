@@ -52,7 +52,7 @@ lent k n x domains =
 unfoldable pub found : Call → Outcome
 unfolding called
 found k =
-    called (record { table = k .table; weights = k .weights; grid = k .grid; noise = replicate (cells (k .grid)) 0; words = k .words }) (k .forbids)
+    called (record { table = k .table; weights = k .weights; grid = k .grid; noise = replicate (cells (k .grid)) 0 }) (k .forbids) (k .words)
     (lent k 7 (ofBits binary32 7) (replicate (cells (k .grid)) 7))
 
 -- a call with the end, the words used and the domains that it must come to

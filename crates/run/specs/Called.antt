@@ -73,21 +73,27 @@ answerTold (Paused used) = answer (record { end = 2; used = used })
 answerTold (Contradiction used) = answer (record { end = 3; used = used })
 answerTold (Refused r) = refused (number r)
 
+-- what a call comes to: what is told, and what the lent slices hold
 pub record Outcome : Type 0 where
   pub told : Asked End
   pub memory : Memory
 
--- refused, all is as it was; accepted, the domains are the run's and work memory is zero
-unfoldable pub outcomeAt : ℕ → Given → List Forbid → Memory → Outcome
-unfolding runOf
-outcomeAt zero i fs m =
-    record {
-      told = answer (record { end = runOf i fs .end; used = runOf i fs .used });
-      memory = memory (runOf i fs .domains) (replicate (length (m .counts)) 0) (replicate (length (m .pending)) 0) (replicate (length (m .floats)) (ofBits binary32 0)) (replicate (length (m .marks)) 0);
-    }
-outcomeAt (suc n) i fs m = record { told = refused (suc n); memory = m }
+abbrev pub outcome : Asked End → Memory → Outcome
+outcome told memory = record { told = told; memory = memory }
+
+-- the answer of a run, its domains, and work memory that is zero
+unfoldable pub finished : Ended → Memory → Outcome
+finished e m =
+    outcome (answer (record { end = e .end; used = e .used }))
+    (memory (e .domains) (replicate (length (m .counts)) 0) (replicate (length (m .pending)) 0) (replicate (length (m .floats)) (ofBits binary32 0)) (replicate (length (m .marks)) 0))
+
+-- refused, all is as it was
+unfoldable pub outcomeAt : ℕ → Given → List Forbid → List ℕ → Memory → Outcome
+unfolding finished runOf
+outcomeAt zero i fs words m = finished (runOf i fs words) m
+outcomeAt (suc n) i fs words m = outcome (refused (suc n)) m
 
 -- what a call of `run` comes to
-unfoldable pub called : Given → List Forbid → Memory → Outcome
+unfoldable pub called : Given → List Forbid → List ℕ → Memory → Outcome
 unfolding firstOf outcomeAt runTests
-called i fs m = outcomeAt (firstOf (runTests i fs m)) i fs m
+called i fs words m = outcomeAt (firstOf (runTests i fs m)) i fs words m

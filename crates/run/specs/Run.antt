@@ -18,16 +18,15 @@ use Rattle.consistency.specs.Worklist.{Removal, removal, State, forbids, propag
 use Rattle.consistency.specs.Start.{start, others}
 use Rattle.propagation.specs.Beside.{Beside, beside, lessened, kept, unmarked}
 use Rattle.run.specs.declared.Forbid.{Forbid}
-use Rattle.run.specs.Observer.{notes, observe, Sight, sightOf}
+use Rattle.run.specs.Observer.{Notes, notes, observe, Sight, sightOf}
 use Rattle.run.specs.Choice.{Draw, draw, taken}
 
--- what a run is given, but for its forbids
+-- what a run is given, but for its forbids and its words
 pub record Given : Type 0 where
   pub table : Table
   pub weights : List ℕ
   pub grid : Grid
   pub noise : List ℕ
-  pub words : List ℕ
 
 -- ---- 1. the start
 
@@ -79,12 +78,17 @@ laidAll i (f ∷ fs) s = cond (s .empty) s (laidAll i fs (laid i f s))
 
 -- ---- 3. and 4. observe and choose
 
+-- what the observer reads of a state
+unfoldable pub notesOf : Given → State Beside → Notes
+unfolding mask
+notesOf i s =
+    let n = cells (i .grid) in
+    notes (drop n (s .beside .floats)) (i .noise) (take n (s .beside .marks)) (s .domains) (mask (i .weights))
+
 -- the cell to observe
 unfoldable pub sighted : Given → State Beside → Option Sight
-unfolding observe sightOf mask
-sighted i s =
-    let n = cells (i .grid) in
-    sightOf (observe (notes (drop n (s .beside .floats)) (i .noise) (take n (s .beside .marks)) (s .domains) (mask (i .weights))))
+unfolding observe sightOf notesOf
+sighted i s = sightOf (observe (notesOf i s))
 
 -- what a run comes to: its end, the words used, and the domains
 pub record Ended : Type 0 where
@@ -116,30 +120,32 @@ pub data Turn : Type 0 where
   over : Ended → Turn
   on : ℕ → State Beside → Turn
 
--- a cell c is observed and a draw is made: without a word the run is Paused (2)
-unfoldable pub drawn : Given → ℕ → State Beside → ℕ → Option Draw → Turn
-unfolding chosen taken
-drawn i used s c none = over (ended 2 used (s .domains))
-drawn i used s c (some d) = on (d .used) (chosen i c (taken (i .weights) (getD (s .domains) c 0) (d .number)) s)
+-- over what is given and the words
+module _ (i : Given) (words : List ℕ) where
+  -- a cell c is observed and a draw is made: without a word the run is Paused (2)
+  unfoldable pub drawn : ℕ → State Beside → ℕ → Option Draw → Turn
+  unfolding chosen taken
+  drawn used s c none = over (ended 2 used (s .domains))
+  drawn used s c (some d) = on (d .used) (chosen i c (taken (i .weights) (getD (s .domains) c 0) (d .number)) s)
 
--- the observation, or nothing to observe
-unfoldable pub seen : Given → ℕ → State Beside → Option Sight → Turn
-unfolding still drawn draw weightSum
-seen i used s none = over (still used s)
-seen i used s (some v) = drawn i used s (v .cell) (draw (i .words) used (weightSum (i .weights) (getD (s .domains) (v .cell) 0)))
+  -- the observation, or nothing to observe
+  unfoldable pub seen : ℕ → State Beside → Option Sight → Turn
+  unfolding still drawn draw weightSum
+  seen used s none = over (still used s)
+  seen used s (some v) = drawn used s (v .cell) (draw words used (weightSum (i .weights) (getD (s .domains) (v .cell) 0)))
 
--- one turn; an empty cell is a Contradiction (3), and every domain is written as zero
-unfoldable pub turn : Given → ℕ → State Beside → Turn
-unfolding seen sighted
-turn i used s = cond (s .empty) (over (ended 3 used (replicate (length (s .domains)) 0))) (seen i used s (sighted i s))
+  -- one turn; an empty cell is a Contradiction (3), and every domain is written as zero
+  unfoldable pub turn : ℕ → State Beside → Turn
+  unfolding seen sighted
+  turn used s = cond (s .empty) (over (ended 3 used (replicate (length (s .domains)) 0))) (seen used s (sighted i s))
 
--- turn by turn, `fuel` times at most
-unfoldable pub collapse : Given → ℕ → ℕ → State Beside → Ended
-unfolding turn
-collapse i zero used s = ended 2 used (s .domains)
-collapse i (suc fuel) used s = elim (turn i used s) [ over e ↦ e | on more t ↦ collapse i fuel more t ]
+  -- turn by turn, `fuel` times at most
+  unfoldable pub collapse : ℕ → ℕ → State Beside → Ended
+  unfolding turn
+  collapse zero used s = ended 2 used (s .domains)
+  collapse (suc fuel) used s = elim (turn used s) [ over e ↦ e | on more t ↦ collapse fuel more t ]
 
 -- the whole run: a choice decides a cell for good, so as many turns as cells and one to end suffice
-unfoldable pub runOf : Given → List Forbid → Ended
+unfoldable pub runOf : Given → List Forbid → List ℕ → Ended
 unfolding collapse laidAll begun
-runOf i fs = collapse i (cells (i .grid) + 1) 0 (laidAll i fs (begun i))
+runOf i fs words = collapse i words (cells (i .grid) + 1) 0 (laidAll i fs (begun i))

@@ -1,0 +1,104 @@
+-- What a turn of a run does: it ends the run, or it makes one choice with one word, at a cell whose note counts, of a pattern that is possible there.
+-- Follows docs/RULES.md, "Run". Assumes nothing.
+use mathlib.Core.Bool.{Bool, true, false, cond}
+use mathlib.Core.List.{List}
+use mathlib.Core.Option.{Option, none, some}
+use mathlib.Core.Path.{_≡_, refl, sym, ap, _∙_, subst}
+use Prim.Native.Nat.{ℕ, suc, _+_, _%_, _≤_, _<_}
+use native.Mathlib.Nat.{mod-lt}
+use native.Mathlib.Numerals.{add-one}
+use native.Mathlib.Omega.{arith}
+use lib.Dec.{ltb}
+use lib.ListN.{length, getD, replicate}
+use borrow.Author.Tests.{ltb-true, ltb-false}
+use Rattle.adjacency.specs.Weights.{weightSum}
+use Rattle.consistency.specs.Domains.{possible}
+use Rattle.consistency.specs.Worklist.{State}
+use Rattle.consistency.specs.Start.{others}
+use Rattle.propagation.specs.Beside.{Beside}
+use Rattle.run.specs.Observer.{Sight}
+use Rattle.run.specs.Choice.{Draw, draw, taken}
+use Rattle.run.specs.Run.{Given, reducedBy, notesOf, sighted, Ended, ended, still, chosen, Turn, drawn, seen, turn}
+use Rattle.run.specs.Course.{counts}
+use Rattle.run.proofs.ChoiceLaws.{taken-some, taken-in}
+use Rattle.run.proofs.SightLaws.{counts-weighs, sight-counts}
+
+module _ (i : Given) (words : List ℕ) (used : ℕ) (s : State Beside) where
+  -- the three ways to end
+  pub data Over : Ended → Type 0 where
+    contradicted : s .empty ≡ true → Over (ended 3 used (replicate (length (s .domains)) 0))
+    stopped : s .empty ≡ false → sighted i s ≡ none → Over (still used s)
+    paused : s .empty ≡ false → (x : Sight) → sighted i s ≡ some x → length words ≤ used → Over (ended 2 used (s .domains))
+
+  -- a choice, after which `more` words are used and the run is at s′
+  pub record Chosen (more : ℕ) (s′ : State Beside) : Type 0 where
+    pub whole : s .empty ≡ false
+    pub cell : ℕ
+    pub pattern : ℕ
+    pub inside : cell < length (s .domains)
+    pub counting : counts (notesOf i s) cell ≡ true
+    pub present : possible (s .domains) cell pattern ≡ 1
+    pub left : used < length words
+    pub one : more ≡ suc used
+    pub made : s′ ≡ reducedBy i (others (i .table .count) cell pattern) s
+
+  -- a turn does one of these
+  pub data Turned : Turn → Type 0 where
+    ends : {e : Ended} → Over e → Turned (Turn.over e)
+    goes : {more : ℕ} {s′ : State Beside} → Chosen more s′ → Turned (Turn.on more s′)
+
+  chosen-by : (x : Sight) → s .empty ≡ false → sighted i s ≡ some x → used < length words
+      → Chosen (used + 1) (chosen i (x .cell) (taken (i .weights) (getD (s .domains) (x .cell) 0) (getD words used 0 % weightSum (i .weights) (getD (s .domains) (x .cell) 0))) s)
+  unfolding sighted notesOf chosen
+  chosen-by x e q l =
+      let w = getD (s .domains) (x .cell) 0 in
+      let (inside, counting) = sight-counts (notesOf i s) x q in
+      let r = getD words used 0 % weightSum (i .weights) w in
+      let (p, z) = taken-some (i .weights) w r (mod-lt (getD words used 0) (counts-weighs (notesOf i s) (x .cell) counting (i .weights) refl)) in
+      record {
+        whole = e;
+        cell = x .cell;
+        pattern = p;
+        inside = inside;
+        counting = counting;
+        present = taken-in (i .weights) w r p z .0;
+        left = l;
+        one = add-one used;
+        made = ap (λ (o : Option ℕ). chosen i (x .cell) o s) z;
+      }
+
+  turned-sight : (o : Option Sight) → s .empty ≡ false → sighted i s ≡ o → Turned (seen i words used s o)
+  unfolding seen drawn draw
+  turned-sight none e q = ends (stopped e q)
+  turned-sight (some x) e q = go (ltb used (length words)) refl
+    where
+      sum : ℕ
+      sum = weightSum (i .weights) (getD (s .domains) (x .cell) 0)
+
+      go : (b : Bool) → ltb used (length words) ≡ b
+          → Turned (drawn i words used s (x .cell) (cond b (some (record { number = getD words used 0 % sum; used = used + 1 })) none))
+      go true l = goes (chosen-by x e q (ltb-true used (length words) l))
+      go false l = ends (paused e x q (ltb-false used (length words) l))
+
+  -- what it does
+  pub turned : Turned (turn i words used s)
+  unfolding turn
+  turned = go (s .empty) refl
+    where
+      go : (b : Bool) → s .empty ≡ b → Turned (cond b (Turn.over (ended 3 used (replicate (length (s .domains)) 0))) (seen i words used s (sighted i s)))
+      go true e = ends (contradicted e)
+      go false e = turned-sight (sighted i s) e refl
+
+  -- a turn that ends the run
+  pub turn-over : {e : Ended} → turn i words used s ≡ Turn.over e → Over e
+  turn-over {e} q = go (subst Turned q turned)
+    where
+      go : Turned (Turn.over e) → Over e
+      go (ends h) = h
+
+  -- a turn after which it goes on
+  pub turn-on : {more : ℕ} {s′ : State Beside} → turn i words used s ≡ Turn.on more s′ → Chosen more s′
+  turn-on {more} {s′} q = go (subst Turned q turned)
+    where
+      go : Turned (Turn.on more s′) → Chosen more s′
+      go (goes h) = h
