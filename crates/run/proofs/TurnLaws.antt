@@ -18,7 +18,7 @@ use Rattle.consistency.specs.Start.{others}
 use Rattle.propagation.specs.Beside.{Beside}
 use Rattle.run.specs.Observer.{Sight}
 use Rattle.run.specs.Choice.{Draw, draw, taken}
-use Rattle.run.specs.Run.{Given, reducedBy, notesOf, sighted, Ended, ended, still, chosen, Turn, drawn, seen, turn}
+use Rattle.run.specs.Run.{Given, reducedBy, notesOf, sighted, Ended, ended, still, chosen, Turn, drawn, seen, turn, collapse}
 use Rattle.run.specs.Course.{counts}
 use Rattle.run.proofs.ChoiceLaws.{taken-some, taken-in}
 use Rattle.run.proofs.SightLaws.{counts-weighs, sight-counts}
@@ -102,3 +102,13 @@ module _ (i : Given) (words : List ℕ) (used : ℕ) (s : State Beside) where
     where
       go : Turned (Turn.on more s′) → Chosen more s′
       go (goes h) = h
+
+  -- ---- a turn of the whole run
+
+  pub collapse-over : (fuel : ℕ) {e : Ended} → turn i words used s ≡ Turn.over e → collapse i words (suc fuel) used s ≡ e
+  unfolding collapse
+  collapse-over fuel q = rw (q, collapse)
+
+  pub collapse-on : (fuel : ℕ) {more : ℕ} {s′ : State Beside} → turn i words used s ≡ Turn.on more s′ → collapse i words (suc fuel) used s ≡ collapse i words fuel more s′
+  unfolding collapse
+  collapse-on fuel q = rw (q, collapse)
