@@ -14,14 +14,14 @@ use Rattle.consistency.specs.Start.{others}
 use Rattle.consistency.specs.Parts.{lessened}
 use Rattle.propagation.specs.Beside.{Beside}
 use Rattle.run.specs.declared.Forbid.{Forbid}
-use Rattle.run.specs.Run.{Given, begun, laidAll, reducedBy, notesOf, Ended, still, Turn, turn, collapse, runOf}
+use Rattle.run.specs.Run.{Given, begun, laidAll, reducedBy, notesOf, Ended, Turn, turn, collapse, runOf}
 use Rattle.run.specs.Course.{Lawful, Reached, forbade, chose, Final}
 use Rattle.consistency.proofs.DomainLaws.{pattern-below}
 use Rattle.consistency.proofs.RemovalLaws.{others-inside, spared-others}
 use Rattle.consistency.proofs.LessenedLaws.{possible-lessened, sub-lessened}
 use Rattle.consistency.proofs.Settled.{Settled}
 use Rattle.run.proofs.SightLaws.{counts-open}
-use Rattle.run.proofs.TurnLaws.{Over, contradicted, stopped, paused, Chosen, turn-over, turn-on, collapse-over, collapse-on}
+use Rattle.run.proofs.TurnLaws.{Over, contradicted, finished, stuck, paused, Chosen, turn-over, turn-on, collapse-over, collapse-on}
 use Rattle.run.proofs.StateLaws.{Stands, reduced-settled, reached-stands}
 use Rattle.run.proofs.OpenLaws.{openCells, open-most, open-some, open-falls}
 
@@ -92,9 +92,9 @@ module _ (i : Given) (fs : List Forbid) (L : Lawful i fs) (words : List ℕ) whe
 
   -- a turn that ends the run uses no word
   over-used : {used : ℕ} {s : State Beside} {e : Ended} → Over i words used s e → e .used ≡ used
-  unfolding still
   over-used (contradicted h) = refl
-  over-used (stopped h q) = refl
+  over-used (finished h d) = refl
+  over-used (stuck h q d) = refl
   over-used (paused h x q l) = refl
 
   final-over : (k used : ℕ) (s : State Beside) (e : Ended) → Reached i fs words k used s → turn i words used s ≡ Turn.over e → Final i fs words e

@@ -18,16 +18,17 @@ use Rattle.consistency.specs.Start.{others}
 use Rattle.propagation.specs.Beside.{Beside}
 use Rattle.run.specs.Observer.{Sight}
 use Rattle.run.specs.Choice.{Draw, draw, taken}
-use Rattle.run.specs.Run.{Given, reducedBy, notesOf, sighted, Ended, ended, still, chosen, Turn, drawn, seen, turn, collapse}
+use Rattle.run.specs.Run.{Given, reducedBy, notesOf, sighted, Ended, ended, decided, still, chosen, Turn, drawn, seen, turn, collapse}
 use Rattle.run.specs.Course.{counts}
 use Rattle.run.proofs.ChoiceLaws.{taken-some, taken-in}
 use Rattle.run.proofs.SightLaws.{counts-weighs, sight-counts}
 
 module _ (i : Given) (words : List ℕ) (used : ℕ) (s : State Beside) where
-  -- the three ways to end
+  -- the four ways to end
   pub data Over : Ended → Type 0 where
     contradicted : s .empty ≡ true → Over (ended 3 used (replicate (length (s .domains)) 0))
-    stopped : s .empty ≡ false → sighted i s ≡ none → Over (still used s)
+    finished : s .empty ≡ false → decided (s .domains) ≡ true → Over (ended 0 used (s .domains))
+    stuck : s .empty ≡ false → sighted i s ≡ none → decided (s .domains) ≡ false → Over (ended 1 used (s .domains))
     paused : s .empty ≡ false → (x : Sight) → sighted i s ≡ some x → length words ≤ used → Over (ended 2 used (s .domains))
 
   -- a choice, after which `more` words are used and the run is at s′
@@ -67,9 +68,17 @@ module _ (i : Given) (words : List ℕ) (used : ℕ) (s : State Beside) where
         made = ap (λ (o : Option ℕ). chosen i (x .cell) o s) z;
       }
 
+  over-still : s .empty ≡ false → sighted i s ≡ none → Over (still used s)
+  unfolding still
+  over-still e q = go (decided (s .domains)) refl
+    where
+      go : (b : Bool) → decided (s .domains) ≡ b → Over (ended (cond b 0 1) used (s .domains))
+      go true d = finished e d
+      go false d = stuck e q d
+
   turned-sight : (o : Option Sight) → s .empty ≡ false → sighted i s ≡ o → Turned (seen i words used s o)
   unfolding seen drawn draw
-  turned-sight none e q = ends (stopped e q)
+  turned-sight none e q = ends (over-still e q)
   turned-sight (some x) e q = go (ltb used (length words)) refl
     where
       sum : ℕ
