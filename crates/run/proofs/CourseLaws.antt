@@ -126,11 +126,18 @@ module _ (i : Given) (fs : List Forbid) (L : Lawful i fs) (words : List ℕ) whe
   refuelled x y e = ap (λ (z : ℕ). collapse i words z 0 (laidAll i fs (begun i))) e
 
   -- what is left of the fuel at a state that is reached
-  pub reached-collapse : {k used : ℕ} {s : State Beside} → Reached i fs words k used s → (fuel : ℕ)
+  reached-collapse : {k used : ℕ} {s : State Beside} → Reached i fs words k used s → (fuel : ℕ)
       → collapse i words (k + fuel) 0 (laidAll i fs (begun i)) ≡ collapse i words fuel used s
   reached-collapse forbade fuel = refuelled (0 + fuel) fuel (omega arith)
   reached-collapse (chose {k = k} {used = used} {s = s} r e) fuel =
       refuelled (suc k + fuel) (k + suc fuel) (omega arith) ∙ reached-collapse r (suc fuel) ∙ collapse-on i words used s fuel e
+
+  -- from a state that is reached, the rest of the run
+  pub reached-run : {k used : ℕ} {s : State Beside} → Reached i fs words k used s → runOf i fs words ≡ collapse i words (cells (i .grid) + 1 - k) used s
+  unfolding runOf
+  reached-run {k} r =
+      let left = cells (i .grid) + 1 - k in
+      refuelled (cells (i .grid) + 1) (k + left) (omega (arith, reached-counted r .few)) ∙ reached-collapse r left
 
   -- a final state ends the run, with any fuel that is more than the cells
   pub final-collapse : {e : Ended} → Final i fs words e → (fuel : ℕ) → cells (i .grid) < fuel → collapse i words fuel 0 (laidAll i fs (begun i)) ≡ e

@@ -85,7 +85,7 @@ module _ (i : Given) (words : List ℕ) (used : ℕ) (s : State Beside) where
       sum = weightSum (i .weights) (getD (s .domains) (x .cell) 0)
 
       go : (b : Bool) → ltb used (length words) ≡ b
-          → Turned (drawn i words used s (x .cell) (cond b (some (record { number = getD words used 0 % sum; used = used + 1 })) none))
+          → Turned (drawn i used s (x .cell) (cond b (some (record { number = getD words used 0 % sum; used = used + 1 })) none))
       go true l = goes (chosen-by x e q (ltb-true used (length words) l))
       go false l = ends (paused e x q (ltb-false used (length words) l))
 

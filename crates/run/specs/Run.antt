@@ -120,19 +120,19 @@ pub data Turn : Type 0 where
   over : Ended → Turn
   on : ℕ → State Beside → Turn
 
+-- a cell c is observed and a draw is made: without a word the run is Paused (2)
+unfoldable pub drawn : Given → ℕ → State Beside → ℕ → Option Draw → Turn
+unfolding chosen taken
+drawn i used s c none = over (ended 2 used (s .domains))
+drawn i used s c (some d) = on (d .used) (chosen i c (taken (i .weights) (getD (s .domains) c 0) (d .number)) s)
+
 -- over what is given and the words
 module _ (i : Given) (words : List ℕ) where
-  -- a cell c is observed and a draw is made: without a word the run is Paused (2)
-  unfoldable pub drawn : ℕ → State Beside → ℕ → Option Draw → Turn
-  unfolding chosen taken
-  drawn used s c none = over (ended 2 used (s .domains))
-  drawn used s c (some d) = on (d .used) (chosen i c (taken (i .weights) (getD (s .domains) c 0) (d .number)) s)
-
   -- the observation, or nothing to observe
   unfoldable pub seen : ℕ → State Beside → Option Sight → Turn
   unfolding still drawn draw weightSum
   seen used s none = over (still used s)
-  seen used s (some v) = drawn used s (v .cell) (draw words used (weightSum (i .weights) (getD (s .domains) (v .cell) 0)))
+  seen used s (some v) = drawn i used s (v .cell) (draw words used (weightSum (i .weights) (getD (s .domains) (v .cell) 0)))
 
   -- one turn; an empty cell is a Contradiction (3), and every domain is written as zero
   unfoldable pub turn : ℕ → State Beside → Turn
