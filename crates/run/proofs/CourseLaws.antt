@@ -20,8 +20,7 @@ use Rattle.consistency.proofs.DomainLaws.{pattern-below}
 use Rattle.consistency.proofs.RemovalLaws.{others-inside, spared-others}
 use Rattle.consistency.proofs.LessenedLaws.{possible-lessened, sub-lessened}
 use Rattle.consistency.proofs.Settled.{Settled}
-use Rattle.run.proofs.SightLaws.{counts-open}
-use Rattle.run.proofs.TurnLaws.{Over, contradicted, finished, stuck, paused, Chosen, turn-over, turn-on, collapse-over, collapse-on}
+use Rattle.run.proofs.TurnLaws.{Over, contradicted, finished, stuck, paused, Chosen, counts-open, turn-over, turn-on, collapse-over, collapse-on}
 use Rattle.run.proofs.StateLaws.{Stands, reduced-settled, reached-stands}
 use Rattle.run.proofs.OpenLaws.{openCells, open-most, open-some, open-falls}
 

@@ -20,16 +20,15 @@ use Rattle.consistency.specs.Worklist.{State}
 use Rattle.consistency.specs.Parts.{lessened}
 use Rattle.propagation.specs.Beside.{Beside}
 use Rattle.run.specs.declared.Forbid.{Forbid}
-use Rattle.run.specs.Observer.{Sight}
+use Rattle.run.specs.Observer.{countsAt, Sight}
 use Rattle.run.specs.Run.{Given, notesOf, sighted, Ended, decided}
-use Rattle.run.specs.Course.{counts, Lawful, Final}
+use Rattle.run.specs.Course.{Lawful, Final}
 use Rattle.loops.proofs.TestLaws.{T-true, true-T, every-at, every-fails}
 use Rattle.words.proofs.CountLaws.{many-width, many-zero}
 use Rattle.consistency.proofs.DomainLaws.{emptied-at, at-emptied}
 use Rattle.consistency.proofs.ConsistentLaws.{one-each}
 use Rattle.consistency.proofs.SettledLaws.{settled-greatest}
-use Rattle.run.proofs.SightLaws.{sight-counts, sight-none}
-use Rattle.run.proofs.TurnLaws.{Over, contradicted, finished, stuck, paused, turn-over}
+use Rattle.run.proofs.TurnLaws.{Over, contradicted, finished, stuck, paused, sight-counts, sight-none, turn-over}
 use Rattle.run.proofs.StateLaws.{Stands, reached-stands}
 use Rattle.run.proofs.CourseLaws.{reached-counted}
 
@@ -116,7 +115,7 @@ module _ (i : Given) (fs : List Forbid) (L : Lawful i fs) (words : List ℕ) {e 
   -- ---- Undecided
 
   -- no note counts, yet some cell has more than one pattern
-  pub undecided-means : e .end ≡ 1 → ((c : ℕ) → c < cells (i .grid) → counts (notesOf i (F .state)) c ≡ false)
+  pub undecided-means : e .end ≡ 1 → ((c : ℕ) → c < cells (i .grid) → countsAt (notesOf i (F .state)) c ≡ false)
       × ((c : ℕ) × (c < cells (i .grid)) × (2 ≤ howMany (i .table .count) (getD (e .domains) c 0)))
   unfolding sighted notesOf
   undecided-means z =
@@ -139,7 +138,7 @@ module _ (i : Given) (fs : List Forbid) (L : Lawful i fs) (words : List ℕ) {e 
   -- ---- Paused
 
   -- a note counts, and no word is left
-  pub paused-means : e .end ≡ 2 → ((c : ℕ) × (c < cells (i .grid)) × (counts (notesOf i (F .state)) c ≡ true)) × (e .used ≡ length words)
+  pub paused-means : e .end ≡ 2 → ((c : ℕ) × (c < cells (i .grid)) × (countsAt (notesOf i (F .state)) c ≡ true)) × (e .used ≡ length words)
   unfolding sighted notesOf
   paused-means z =
       let (x, q, l) = go ending z in

@@ -2,26 +2,57 @@
 -- Follows docs/RULES.md, "Run". Assumes nothing.
 use mathlib.Core.Bool.{Bool, true, false, cond}
 use mathlib.Core.List.{List}
-use mathlib.Core.Option.{Option, none, some}
+use mathlib.Core.Option.{Option, none, some, Option·some-injective, Option·none-ne-some}
 use mathlib.Core.Path.{_≡_, refl, sym, ap, _∙_, subst}
 use Prim.Native.Nat.{ℕ, suc, _+_, _%_, _≤_, _<_}
 use native.Mathlib.Nat.{mod-lt}
 use native.Mathlib.Numerals.{add-one}
 use native.Mathlib.Omega.{arith}
 use lib.Dec.{ltb}
+use lib.Ieee.{Float}
 use lib.ListN.{length, getD, replicate}
 use borrow.Author.Tests.{ltb-true, ltb-false}
+use Rattle.words.specs.Words.{howMany}
 use Rattle.adjacency.specs.Weights.{weightSum}
 use Rattle.consistency.specs.Domains.{possible}
 use Rattle.consistency.specs.Worklist.{State}
 use Rattle.consistency.specs.Start.{others}
 use Rattle.propagation.specs.Beside.{Beside}
-use Rattle.run.specs.Observer.{Sight}
+use Rattle.run.specs.declared.inner.Observed.{Observed}
+use Rattle.run.specs.declared.inner.Observed.the-variants.{Cell, Nothing}
+use Rattle.run.specs.Observer.{Notes, countsAt, observe, Sight, sightOf}
 use Rattle.run.specs.Choice.{Draw, draw, taken}
 use Rattle.run.specs.Run.{Given, reducedBy, notesOf, sighted, Ended, ended, decided, still, chosen, Turn, drawn, seen, turn, collapse}
-use Rattle.run.specs.Course.{counts}
 use Rattle.run.proofs.ChoiceLaws.{taken-some, taken-in}
-use Rattle.run.proofs.SightLaws.{counts-weighs, sight-counts}
+use Rattle.run.proofs.ObserverLaws.{valid-counts, valid-weight, nothing-counts, observed-seen}
+
+-- ---- what is sighted
+
+module _ (v : Notes) where
+  -- a cell whose note counts is open
+  pub counts-open : (c : ℕ) → countsAt v c ≡ true → 2 ≤ howMany 64 (getD (v .domains) c 0)
+  counts-open c e = valid-counts (getD (v .counts) c 0) (getD (v .domains) c 0) (v .mask) e .several
+
+  -- a cell that is named has a note that counts
+  pub sight-counts : (x : Sight) → sightOf (observe v) ≡ some x → (x .cell < length (v .domains)) × (countsAt v (x .cell) ≡ true)
+  unfolding sightOf
+  sight-counts x = go (observe v) (λ c e is. let h = observed-seen v is in (h .inside, h .counts))
+    where
+      go : (o : Observed) → ((c : ℕ) (e : Float) → o ≡ Cell c e → (c < length (v .domains)) × (countsAt v c ≡ true)) → sightOf o ≡ some x
+          → (x .cell < length (v .domains)) × (countsAt v (x .cell) ≡ true)
+      go (Cell c e) f q = let z : c ≡ x .cell = ap (λ (y : Sight). y .cell) (Option·some-injective (record { cell = c; entropy = e }) x q) in rw (← z) (f c e refl)
+      go Nothing f q = absurd (Option·none-ne-some x q)
+
+  -- where none is named no note counts
+  pub sight-none : sightOf (observe v) ≡ none → (c : ℕ) → c < length (v .domains) → countsAt v c ≡ false
+  unfolding sightOf
+  sight-none = go (observe v) (λ is. nothing-counts v is)
+    where
+      go : (o : Observed) → (o ≡ Nothing → (c : ℕ) → c < length (v .domains) → countsAt v c ≡ false) → sightOf o ≡ none → (c : ℕ) → c < length (v .domains) → countsAt v c ≡ false
+      go (Cell c e) f q = absurd (Option·none-ne-some (record { cell = c; entropy = e }) (sym q))
+      go Nothing f q = f refl
+
+-- ---- what a turn does
 
 module _ (i : Given) (words : List ℕ) (used : ℕ) (s : State Beside) where
   -- the four ways to end
@@ -37,7 +68,7 @@ module _ (i : Given) (words : List ℕ) (used : ℕ) (s : State Beside) where
     pub cell : ℕ
     pub pattern : ℕ
     pub inside : cell < length (s .domains)
-    pub counting : counts (notesOf i s) cell ≡ true
+    pub counting : countsAt (notesOf i s) cell ≡ true
     pub present : possible (s .domains) cell pattern ≡ 1
     pub left : used < length words
     pub one : more ≡ suc used
@@ -55,7 +86,7 @@ module _ (i : Given) (words : List ℕ) (used : ℕ) (s : State Beside) where
       let w = getD (s .domains) (x .cell) 0 in
       let (inside, counting) = sight-counts (notesOf i s) x q in
       let r = getD words used 0 % weightSum (i .weights) w in
-      let (p, z) = taken-some (i .weights) w r (mod-lt (getD words used 0) (counts-weighs (notesOf i s) (x .cell) counting (i .weights) refl)) in
+      let (p, z) = taken-some (i .weights) w r (mod-lt (getD words used 0) (valid-weight (i .weights) (getD (notesOf i s .counts) (x .cell) 0) w counting)) in
       record {
         whole = e;
         cell = x .cell;

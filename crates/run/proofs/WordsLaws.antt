@@ -21,8 +21,7 @@ use Rattle.run.specs.Choice.{Draw, draw}
 use Rattle.run.specs.Run.{Given, begun, laidAll, sighted, notesOf, Ended, ended, Turn, drawn, seen, turn, collapse, runOf}
 use Rattle.run.specs.Course.{Lawful, Reached, forbade, chose, Final}
 use Rattle.consistency.proofs.DomainLaws.{possible-none}
-use Rattle.run.proofs.SightLaws.{counts-open}
-use Rattle.run.proofs.TurnLaws.{Over, contradicted, finished, stuck, paused, turn-over, turn-on}
+use Rattle.run.proofs.TurnLaws.{Over, contradicted, finished, stuck, paused, counts-open, turn-over, turn-on}
 use Rattle.run.proofs.StateLaws.{reached-stands}
 use Rattle.run.proofs.OpenLaws.{openCells, open-some}
 use Rattle.run.proofs.CourseLaws.{chosen-sub, reached-counted, run-final, reached-run, final-collapse}

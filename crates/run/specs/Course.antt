@@ -1,17 +1,14 @@
 -- The course of a run: the states that it reaches, by how many choices and with how many words used, and the state where it ends.
 -- Follows docs/RULES.md, "Run". Assumes nothing.
-use mathlib.Core.Bool.{Bool}
 use mathlib.Core.List.{List, [], _∷_, _++_}
 use mathlib.Core.Path.{_≡_}
 use Prim.Native.Nat.{ℕ, suc, _<_}
-use lib.ListN.{getD}
 use Rattle.adjacency.specs.Accepted.{Accepted}
 use Rattle.adjacency.specs.Weights.{Weighed}
 use Rattle.grid.specs.Grid.{cells}
 use Rattle.consistency.specs.Worklist.{Removal, State}
 use Rattle.propagation.specs.Beside.{Beside}
 use Rattle.run.specs.declared.Forbid.{Forbid}
-use Rattle.run.specs.Observer.{Notes, valid}
 use Rattle.run.specs.Run.{Given, begun, asked, laidAll, Ended, Turn, turn}
 
 -- each forbid names a pattern of P and a cell of n
@@ -24,11 +21,6 @@ pub record Lawful (i : Given) (fs : List Forbid) : Type 0 where
   pub accepted : Accepted (i .table)
   pub weighed : Weighed (i .table .count) (i .weights)
   pub placed : Placed (i .table .count) (cells (i .grid)) fs
-
--- the note of cell c counts
-unfoldable pub counts : Notes → ℕ → Bool
-unfolding valid
-counts v c = valid (getD (v .counts) c 0) (getD (v .domains) c 0) (v .mask)
 
 -- all that forbids ask to go
 unfoldable pub wanted : ℕ → List Forbid → List Removal

@@ -18,7 +18,7 @@ use Rattle.consistency.specs.Worklist.{Removal, removal, State, forbids, propag
 use Rattle.consistency.specs.Start.{start, others}
 use Rattle.propagation.specs.Beside.{Beside, beside, lessened, kept, unmarked}
 use Rattle.run.specs.declared.Forbid.{Forbid}
-use Rattle.run.specs.Observer.{Notes, notes, observe, Sight, sightOf}
+use Rattle.run.specs.Observer.{Notes, notesIn, observe, Sight, sightOf}
 use Rattle.run.specs.Choice.{Draw, draw, taken}
 
 -- what a run is given, but for its forbids and its words
@@ -81,9 +81,7 @@ laidAll i (f ∷ fs) s = cond (s .empty) s (laidAll i fs (laid i f s))
 -- what the observer reads of a state
 unfoldable pub notesOf : Given → State Beside → Notes
 unfolding mask
-notesOf i s =
-    let n = cells (i .grid) in
-    notes (drop n (s .beside .floats)) (i .noise) (take n (s .beside .marks)) (s .domains) (mask (i .weights))
+notesOf i s = notesIn (cells (i .grid)) (i .noise) (s .domains) (s .beside .floats) (s .beside .marks) (mask (i .weights))
 
 -- the cell to observe
 unfoldable pub sighted : Given → State Beside → Option Sight
