@@ -21,7 +21,7 @@ use Rattle.consistency.proofs.RemovalLaws.{others-inside, spared-others}
 use Rattle.consistency.proofs.LessenedLaws.{possible-lessened, sub-lessened}
 use Rattle.consistency.proofs.Settled.{Settled}
 use Rattle.run.proofs.TurnLaws.{Over, contradicted, finished, stuck, paused, Chosen, counts-open, turn-over, turn-on, collapse-over, collapse-on}
-use Rattle.run.proofs.StateLaws.{Stands, reduced-settled, reached-stands}
+use Rattle.run.proofs.StateLaws.{Stands, reducedBy-settled, reached-stands}
 use Rattle.run.proofs.OpenLaws.{openCells, open-most, open-some, open-falls}
 
 -- ---- a choice
@@ -39,7 +39,7 @@ module _ (i : Given) (fs : List Forbid) (L : Lawful i fs) (words : List ℕ) (us
   pub chosen-settled : Settled (i .table) (i .grid) (lessened (others (i .table .count) (c .cell) (c .pattern)) (s .domains)) s′
   chosen-settled =
       rw (c .made)
-      (reduced-settled i (L .accepted) (others (i .table .count) (c .cell) (c .pattern)) s (others-inside _ _ _ _ inside) (S .settled .ready (c .whole)))
+      (reducedBy-settled i (L .accepted) (others (i .table .count) (c .cell) (c .pattern)) s (others-inside _ _ _ _ inside) (S .settled .ready (c .whole)))
 
   module _ (e : s′ .empty ≡ false) where
     -- it restores no pattern

@@ -1,6 +1,7 @@
 -- What each end of a run says of the state where it ends. Follows docs/RULES.md, "Run". Assumes nothing.
 use mathlib.Core.Bool.{Bool, true, false, cond, false≢true, true≢false}
 use mathlib.Core.List.{List}
+use mathlib.Core.Logic.{_↔_}
 use mathlib.Core.Option.{none, some}
 use mathlib.Core.Path.{_≡_, refl, sym, ap, _∙_, subst}
 use Prim.Native.Nat.{ℕ, _+_, _^_, _≤_, _<_}
@@ -14,7 +15,7 @@ use Rattle.loops.specs.Tests.{every}
 use Rattle.words.specs.Words.{howMany}
 use Rattle.adjacency.specs.Tables.{inList}
 use Rattle.grid.specs.Grid.{cells, neighbour}
-use Rattle.consistency.specs.Domains.{possible, filled, Fit, emptied}
+use Rattle.consistency.specs.Domains.{possible, filled, Fit, emptied, settledAs}
 use Rattle.consistency.specs.Consistent.{Consistent, Greatest}
 use Rattle.consistency.specs.Worklist.{State}
 use Rattle.consistency.specs.Parts.{lessened}
@@ -22,10 +23,10 @@ use Rattle.propagation.specs.Beside.{Beside}
 use Rattle.run.specs.declared.Forbid.{Forbid}
 use Rattle.run.specs.Observer.{countsAt, Sight}
 use Rattle.run.specs.Run.{Given, notesOf, sighted, Ended, decided}
-use Rattle.run.specs.Course.{Lawful, Final}
+use Rattle.run.specs.Course.{Lawful, fullLess, Final}
 use Rattle.loops.proofs.TestLaws.{T-true, true-T, every-at, every-fails}
 use Rattle.words.proofs.CountLaws.{many-width, many-zero}
-use Rattle.consistency.proofs.DomainLaws.{emptied-at, at-emptied}
+use Rattle.consistency.proofs.DomainLaws.{at-emptied, settled-empty, settled-whole, fit-settled}
 use Rattle.consistency.proofs.ConsistentLaws.{one-each}
 use Rattle.consistency.proofs.SettledLaws.{settled-greatest}
 use Rattle.run.proofs.TurnLaws.{Over, contradicted, finished, stuck, paused, sight-counts, sight-none, turn-over}
@@ -47,62 +48,86 @@ width-free : (P w : ℕ) → P ≤ 64 → w < 2 ^ P → howMany P w ≡ howMany 
 width-free P w h l = many-width P 64 w l (omega (arith, pow-mono {i = P} {j = 64} h))
 
 -- a cell that is not empty and has not one pattern has more
-several : (P n : ℕ) (D : List ℕ) (c : ℕ) → Fit P n D → emptied D ≡ false → c < n → (howMany P (getD D c 0) ≡ 1 → ⊥) → 2 ≤ howMany P (getD D c 0)
-several P n D c F e h k =
+several : (P : ℕ) {n : ℕ} (D : List ℕ) (c : ℕ) → Fit P n D → emptied D ≡ false → c < length D → (howMany P (getD D c 0) ≡ 1 → ⊥) → 2 ≤ howMany P (getD D c 0)
+several P D c F e h k =
     elim (ℕ-discrete (howMany P (getD D c 0)) 0) [
-      | yes z ↦ absurd (true≢false (sym (at-emptied D c (omega (arith, F .sized)) (many-zero P (getD D c 0) (F .words c) z)) ∙ e))
+      | yes z ↦ absurd (true≢false (sym (at-emptied D c h (many-zero P (getD D c 0) (F .words c) z)) ∙ e))
       | no z ↦ omega arith
     ]
+
+-- ---- what is written of a state
+
+module _ (i : Given) (words : List ℕ) (used : ℕ) (s : State Beside) where
+  -- a cell of it is empty exactly where the end is Contradiction
+  over-empty : {e : Ended} → Over i words used s e → (e .end ≡ 3) ↔ (s .empty ≡ true)
+  over-empty (contradicted h) = (λ _. h, λ _. refl)
+  over-empty (finished h d) = (λ z. absurd (omega arith), λ z. absurd (true≢false (sym z ∙ h)))
+  over-empty (stuck h q d) = (λ z. absurd (omega arith), λ z. absurd (true≢false (sym z ∙ h)))
+  over-empty (paused h x q l) = (λ z. absurd (omega arith), λ z. absurd (true≢false (sym z ∙ h)))
+
+  -- its domains, or zeros
+  over-written : {e : Ended} → s .empty ≡ emptied (s .domains) → Over i words used s e → e .domains ≡ settledAs (s .domains)
+  over-written told (contradicted h) = sym (settled-empty (s .domains) (sym told ∙ h))
+  over-written told (finished h d) = sym (settled-whole (s .domains) (sym told ∙ h))
+  over-written told (stuck h q d) = sym (settled-whole (s .domains) (sym told ∙ h))
+  over-written told (paused h x q l) = sym (settled-whole (s .domains) (sym told ∙ h))
 
 module _ (i : Given) (fs : List Forbid) (L : Lawful i fs) (words : List ℕ) {e : Ended} (F : Final i fs words e) where
   -- the last state is what propagation leaves of full domains less all that was asked to go
   pub last-stands : Stands i (F .state)
   last-stands = reached-stands i fs L (F .reached)
 
-  sized : length (F .state .domains) ≡ cells (i .grid)
-  sized = last-stands .settled .safe .fit .sized
-
   ending : Over i words (e .used) (F .state) e
   ending = turn-over i words (e .used) (F .state) (F .over)
+
+  -- ---- every end
+
+  -- a cell of the last state is empty exactly where the end is Contradiction
+  pub end-empty : (e .end ≡ 3) ↔ (F .state .empty ≡ true)
+  end-empty = over-empty i words (e .used) (F .state) ending
+
+  told : F .state .empty ≡ emptied (F .state .domains)
+  told = last-stands .settled .safe .told
+
+  -- what is written is the last state, or zeros
+  pub end-written : e .domains ≡ settledAs (F .state .domains)
+  end-written = over-written i words (e .used) (F .state) told ending
+
+  -- it has a word of P bits for each cell
+  pub end-fit : Fit (i .table .count) (cells (i .grid)) (e .domains)
+  end-fit = rw end-written (fit-settled (last-stands .settled .safe .fit))
+
+  -- how many patterns a cell has, counted over P or over 64
+  many-end : (c : ℕ) → howMany (i .table .count) (getD (e .domains) c 0) ≡ howMany 64 (getD (e .domains) c 0)
+  many-end c = width-free (i .table .count) (getD (e .domains) c 0) (L .accepted .few) (end-fit .words c)
 
   -- ---- every end but Contradiction
 
   module _ (whole : e .end ≡ 3 → ⊥) where
-    -- the domains are those of the last state
-    pub end-domains : (F .state .empty ≡ false) × (F .state .domains ≡ e .domains)
-    end-domains = go ending whole
+    pub end-whole : F .state .empty ≡ false
+    end-whole = go (F .state .empty) refl
       where
-        go : {e′ : Ended} → Over i words (e .used) (F .state) e′ → (e′ .end ≡ 3 → ⊥) → (F .state .empty ≡ false) × (F .state .domains ≡ e′ .domains)
-        go (contradicted h) n = absurd (n refl)
-        go (finished h d) n = (h, refl)
-        go (stuck h q d) n = (h, refl)
-        go (paused h x q l) n = (h, refl)
+        go : (b : Bool) → F .state .empty ≡ b → F .state .empty ≡ false
+        go true h = absurd (whole (end-empty .1 h))
+        go false h = h
+
+    -- the domains are those of the last state
+    pub end-domains : F .state .domains ≡ e .domains
+    end-domains = sym (end-written ∙ settled-whole (F .state .domains) (sym told ∙ end-whole))
 
     -- they are the greatest consistent subset of full domains less all that was asked to go
-    pub end-greatest : Greatest (i .table) (i .grid) (lessened (last-stands .asks) (filled (i .table .count) (cells (i .grid)))) (e .domains)
+    pub end-greatest : Greatest (i .table) (i .grid) (fullLess i (last-stands .asks)) (e .domains)
     end-greatest =
-        let (h, same) = end-domains in
-        subst (λ (D : List ℕ). Greatest (i .table) (i .grid) (lessened (last-stands .asks) (filled (i .table .count) (cells (i .grid)))) D) same
-        (settled-greatest (i .table) (i .grid) _ (F .state) (last-stands .settled) h)
-
-    -- no cell is empty
-    pub end-whole : emptied (e .domains) ≡ false
-    end-whole = let (h, same) = end-domains in ap emptied (sym same) ∙ sym (last-stands .settled .safe .told) ∙ h
-
-    -- how many patterns a cell has, counted over P or over 64
-    many-end : (c : ℕ) → howMany (i .table .count) (getD (e .domains) c 0) ≡ howMany 64 (getD (e .domains) c 0)
-    many-end c = width-free (i .table .count) (getD (e .domains) c 0) (L .accepted .few) (end-greatest .fit .words c)
+        subst (λ (D : List ℕ). Greatest (i .table) (i .grid) (fullLess i (last-stands .asks)) D) end-domains
+        (settled-greatest (i .table) (i .grid) _ (F .state) (last-stands .settled) end-whole)
 
   -- ---- Decided
 
   -- every cell has one pattern, and no list is violated
   pub decided-means : e .end ≡ 0 → ((c : ℕ) → c < cells (i .grid) → howMany (i .table .count) (getD (e .domains) c 0) ≡ 1)
       × ((c p d n q : ℕ) → d < 4 → neighbour (i .grid) c d ≡ some n → possible (e .domains) c p ≡ 1 → possible (e .domains) n q ≡ 1 → inList (i .table) p d q)
-  decided-means z = (one, one-each (i .table) (i .grid) (e .domains) (end-greatest whole .fit) (end-greatest whole .consistent) one)
+  decided-means z = (one, one-each (i .table) (i .grid) (e .domains) end-fit (end-greatest (λ y. omega arith) .consistent) one)
     where
-      whole : e .end ≡ 3 → ⊥
-      whole y = omega arith
-
       go : {e′ : Ended} → Over i words (e .used) (F .state) e′ → e′ .end ≡ 0 → decided (e′ .domains) ≡ true
       go (contradicted h) z = absurd (omega arith)
       go (finished h d) z = d
@@ -110,7 +135,7 @@ module _ (i : Given) (fs : List Forbid) (L : Lawful i fs) (words : List ℕ) {e 
       go (paused h x q l) z = absurd (omega arith)
 
       one : (c : ℕ) → c < cells (i .grid) → howMany (i .table .count) (getD (e .domains) c 0) ≡ 1
-      one c h = many-end whole c ∙ decided-each (e .domains) (go ending z) c (omega (arith, end-greatest whole .fit .sized))
+      one c h = many-end c ∙ decided-each (e .domains) (go ending z) c (omega (arith, end-fit .sized))
 
   -- ---- Undecided
 
@@ -121,14 +146,12 @@ module _ (i : Given) (fs : List Forbid) (L : Lawful i fs) (words : List ℕ) {e 
   undecided-means z =
       let (unseen, undecided) = go ending z in
       let (c, h, k) = undecided-some (e .domains) undecided in
-      let inside : c < cells (i .grid) = omega (arith, end-greatest whole .fit .sized) in (
-        λ m l. sight-none (notesOf i (F .state)) unseen m (omega (arith, sized)),
-        (c, inside, several (i .table .count) (cells (i .grid)) (e .domains) c (end-greatest whole .fit) (end-whole whole) inside (λ y. k (sym (many-end whole c) ∙ y))),
+      let same = end-domains (λ y. omega arith) in
+      let whole = ap emptied (sym same) ∙ sym told ∙ end-whole (λ y. omega arith) in (
+        λ m l. sight-none (notesOf i (F .state)) unseen m (omega (arith, last-stands .settled .safe .fit .sized)),
+        (c, omega (arith, end-fit .sized), several (i .table .count) (e .domains) c end-fit whole h (λ y. k (sym (many-end c) ∙ y))),
       )
     where
-      whole : e .end ≡ 3 → ⊥
-      whole y = omega arith
-
       go : {e′ : Ended} → Over i words (e .used) (F .state) e′ → e′ .end ≡ 1 → (sighted i (F .state) ≡ none) × (decided (e′ .domains) ≡ false)
       go (contradicted h) z = absurd (omega arith)
       go (finished h d) z = absurd (omega arith)
@@ -143,7 +166,7 @@ module _ (i : Given) (fs : List Forbid) (L : Lawful i fs) (words : List ℕ) {e 
   paused-means z =
       let (x, q, l) = go ending z in
       let (h, k) = sight-counts (notesOf i (F .state)) x q in
-      ((x .cell, omega (arith, sized), k), omega (arith, reached-counted i fs L words (F .reached) .spent))
+      ((x .cell, omega (arith, last-stands .settled .safe .fit .sized), k), omega (arith, reached-counted i fs L words (F .reached) .spent))
     where
       go : {e′ : Ended} → Over i words (e .used) (F .state) e′ → e′ .end ≡ 2 → (x : Sight) × (sighted i (F .state) ≡ some x) × (length words ≤ e .used)
       go (contradicted h) z = absurd (omega arith)
@@ -153,14 +176,10 @@ module _ (i : Given) (fs : List Forbid) (L : Lawful i fs) (words : List ℕ) {e 
 
   -- ---- Contradiction
 
-  -- the greatest consistent subset of full domains less all that was asked to go has an empty cell, and all domains are written as zero
+  -- the greatest consistent subset of full domains less all that was asked to go has an empty cell, and every domain is written as zero
   pub contradiction-means : e .end ≡ 3 → (emptied (last-stands .settled .rest) ≡ true) × (e .domains ≡ replicate (cells (i .grid)) 0)
   contradiction-means z =
-      let (h, zeros) = go ending z in
-      (sym (last-stands .settled .contradiction) ∙ h, zeros ∙ ap (λ (n : ℕ). replicate n 0) sized)
-    where
-      go : {e′ : Ended} → Over i words (e .used) (F .state) e′ → e′ .end ≡ 3 → (F .state .empty ≡ true) × (e′ .domains ≡ replicate (length (F .state .domains)) 0)
-      go (contradicted h) z = (h, refl)
-      go (finished h d) z = absurd (omega arith)
-      go (stuck h q d) z = absurd (omega arith)
-      go (paused h x q l) z = absurd (omega arith)
+      let h = end-empty .0 z in (
+        sym (last-stands .settled .contradiction) ∙ h,
+        end-written ∙ settled-empty (F .state .domains) (sym told ∙ h) ∙ ap (λ (n : ℕ). replicate n 0) (last-stands .settled .safe .fit .sized),
+      )

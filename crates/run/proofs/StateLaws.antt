@@ -19,7 +19,7 @@ use Rattle.propagation.specs.Beside.{Beside, kept, unmarked}
 use Rattle.propagation.specs.Beside.{lessened as valued}
 use Rattle.run.specs.declared.Forbid.{Forbid}
 use Rattle.run.specs.Run.{Given, begun, reducedBy, asked, laid, laidAll, firstBeside, turn, Turn}
-use Rattle.run.specs.Course.{Placed, Lawful, wanted, Reached, forbade, chose}
+use Rattle.run.specs.Course.{Placed, Lawful, fullLess, wanted, Reached, forbade, chose}
 use Rattle.consistency.proofs.DomainLaws.{fit-filled}
 use Rattle.consistency.proofs.RemovalLaws.{inside-append, others-inside}
 use Rattle.consistency.proofs.LessenedLaws.{fit-lessened, lessened-append, forbids-lessened}
@@ -48,10 +48,10 @@ module _ (i : Given) (A : Accepted (i .table)) where
   -- ---- one propagation
 
   -- from a state that is ready, a propagation leaves the greatest consistent subset of what it started from
-  pub reduced-settled : (us : List Removal) (s : State Beside) → Inside (i .table .count) (cells (i .grid)) us → Ready (i .table) (i .grid) s
+  pub reducedBy-settled : (us : List Removal) (s : State Beside) → Inside (i .table .count) (cells (i .grid)) us → Ready (i .table) (i .grid) s
       → Settled (i .table) (i .grid) (lessened us (s .domains)) (reducedBy i us s)
   unfolding reducedBy
-  reduced-settled us s h R =
+  reducedBy-settled us s h R =
       let r = forbids (i .table .count) (valued (i .weights)) us s in
       subst (λ (D : List ℕ). Settled (i .table) (i .grid) D (reducedBy i us s)) (forbids-lessened (i .table .count) (valued (i .weights)) us s)
       (settled (i .table) (i .grid) A (kept (i .weights) (i .noise) (cells (i .grid))) _
@@ -74,7 +74,7 @@ module _ (i : Given) (A : Accepted (i .table)) where
       either (s .empty) refl
       (λ e.
       laidAll-settled fs (lessened us D) (laid i f s) (h .2) (fit-lessened us F)
-      (settled-after (i .table) (i .grid) A us D s (laid i f s) S e (reduced-settled us s (asked-inside _ _ f (h .0) (h .1)) (S .ready e))))
+      (settled-after (i .table) (i .grid) A us D s (laid i f s) S e (reducedBy-settled us s (asked-inside _ _ f (h .0) (h .1)) (S .ready e))))
     where
       us : List Removal
       us = asked (i .table .count) f
@@ -93,11 +93,11 @@ module _ (i : Given) (A : Accepted (i .table)) where
 pub record Stands (i : Given) (s : State Beside) : Type 0 where
   pub asks : List Removal
   pub inside : Inside (i .table .count) (cells (i .grid)) asks
-  pub settled : Settled (i .table) (i .grid) (lessened asks (filled (i .table .count) (cells (i .grid)))) s
+  pub settled : Settled (i .table) (i .grid) (fullLess i asks) s
 
 module _ (i : Given) (fs : List Forbid) (L : Lawful i fs) where
   -- after the forbids it is that of all that they ask
-  pub forbade-settled : Settled (i .table) (i .grid) (lessened (wanted (i .table .count) fs) (filled (i .table .count) (cells (i .grid)))) (laidAll i fs (begun i))
+  pub forbade-settled : Settled (i .table) (i .grid) (fullLess i (wanted (i .table .count) fs)) (laidAll i fs (begun i))
   forbade-settled = laidAll-settled i (L .accepted) fs _ (begun i) (L .placed) (fit-filled _ _) (begun-settled i (L .accepted))
 
   -- more removals, propagated
@@ -108,7 +108,7 @@ module _ (i : Given) (fs : List Forbid) (L : Lawful i fs) where
         inside = inside-append _ _ (S .asks) us (S .inside) h;
         settled =
             rw (lessened-append (S .asks) us)
-            (settled-after (i .table) (i .grid) (L .accepted) us _ s (reducedBy i us s) (S .settled) e (reduced-settled i (L .accepted) us s h (S .settled .ready e)));
+            (settled-after (i .table) (i .grid) (L .accepted) us _ s (reducedBy i us s) (S .settled) e (reducedBy-settled i (L .accepted) us s h (S .settled .ready e)));
       }
 
   stands-forbade : Stands i (laidAll i fs (begun i))
@@ -133,4 +133,4 @@ module _ (i : Given) (fs : List Forbid) (L : Lawful i fs) where
     -- every propagation inside a run leaves the greatest consistent subset of what it started from, or a contradiction exactly where that has an empty cell
     pub run-propagates : (us : List Removal) → Inside (i .table .count) (cells (i .grid)) us
         → Settled (i .table) (i .grid) (lessened us (s .domains)) (reducedBy i us s)
-    run-propagates us h = reduced-settled i (L .accepted) us s h reached-ready
+    run-propagates us h = reducedBy-settled i (L .accepted) us s h reached-ready

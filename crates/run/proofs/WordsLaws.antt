@@ -25,7 +25,7 @@ use Rattle.run.proofs.TurnLaws.{Over, contradicted, finished, stuck, pa
 use Rattle.run.proofs.StateLaws.{reached-stands}
 use Rattle.run.proofs.OpenLaws.{openCells, open-some}
 use Rattle.run.proofs.CourseLaws.{chosen-sub, reached-counted, run-final, reached-run, final-collapse}
-use Rattle.run.proofs.EndLaws.{end-domains, paused-means}
+use Rattle.run.proofs.EndLaws.{end-whole, end-domains, paused-means}
 
 -- ---- a draw
 
@@ -138,7 +138,7 @@ module _ (i : Given) (fs : List Forbid) (L : Lawful i fs) (words : List ℕ) whe
           let r = reached-longer i fs words more (F .reached) in
           rw (reached-run i fs L (words ++ more) r)
           (collapse-below i fs L (words ++ more) (runOf i fs words .domains) _ (F .choices) _ (F .state) r (omega arith)
-          (λ _. rw (end-domains i fs L words F (λ y. omega arith) .1) (λ c p h. h)))
+          (λ _. rw (end-domains i fs L words F (λ y. omega arith)) (λ c p h. h)))
 
       go : Dec (runOf i fs words .end ≡ 2) → Sub (runOf i fs (words ++ more) .domains) (runOf i fs words .domains)
       go (no n) = rw (appended-same more n) (λ c p h. h)
@@ -151,6 +151,6 @@ module _ (i : Given) (fs : List Forbid) (L : Lawful i fs) (words : List ℕ) whe
       let F = run-final i fs L words in
       let ((c, inside, counting), all) = paused-means i fs L words F z in
       let C = reached-counted i fs L words (F .reached) in
-      let whole = end-domains i fs L words F (λ y. omega arith) .0 in
+      let whole = end-whole i fs L words F (λ y. omega arith) in
       let open-there = open-some (cells (i .grid)) (F .state .domains) c inside (counts-open (notesOf i (F .state)) c counting) in
       omega (arith, C .each, C .rest whole, open-there)
