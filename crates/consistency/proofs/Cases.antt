@@ -1,17 +1,17 @@
 -- Six worked cases of propagation on Checker, two patterns that each allow only the other: one table, one claim, by computing.
 -- Follows docs/RULES.md, "Propagation". Assumes nothing.
-use mathlib.Core.Path.{_≡_, refl}
 use mathlib.Core.Bool.{Bool, true, false}
 use mathlib.Core.List.{List, [], _∷_}
+use mathlib.Core.Path.{_≡_, refl}
 use Prim.Native.Nat.{ℕ}
 use Rattle.adjacency.specs.Tables.{Table, table}
 use Rattle.adjacency.specs.Checks.{badCount, badOffsets, badList, disagree}
 use Rattle.adjacency.specs.Accepted.{Accepted}
-use Rattle.adjacency.proofs.AcceptedLaws.{accepted-by}
 use Rattle.grid.specs.Grid.{Grid, grid}
 use Rattle.consistency.specs.Domains.{settledAs}
 use Rattle.consistency.specs.Worklist.{Removal, removal, State}
 use Rattle.consistency.specs.Start.{others, reduced}
+use Rattle.adjacency.proofs.AcceptedLaws.{accepted-by}
 
 abbrev pub checker : Table
 checker = table 2 (0 ∷ 1 ∷ 2 ∷ 3 ∷ 4 ∷ 5 ∷ 6 ∷ 7 ∷ 8 ∷ []) (1 ∷ 1 ∷ 1 ∷ 1 ∷ 0 ∷ 0 ∷ 0 ∷ 0 ∷ [])

@@ -1,23 +1,23 @@
 -- Laws of consistent domains: they are those whose every pattern has supports, in a table that is accepted; full domains are consistent,
 -- and with one pattern per cell no list is violated. Follows docs/RULES.md, "Propagation". Assumes nothing.
-use mathlib.Core.Path.{_≡_, refl, ap, subst, _∙_}
 use mathlib.Core.List.{List}
 use mathlib.Core.Option.{Option, none, some}
-use Prim.Native.Nat.{ℕ, zero, suc, _+_, _*_, _<_}
+use mathlib.Core.Path.{_≡_, refl, ap, subst, _∙_}
+use Prim.Native.Nat.{ℕ, zero, suc, _*_, _<_}
 use native.Mathlib.Omega.{arith}
 use lib.ListN.{length, getD}
-use Rattle.loops.proofs.SumLaws.{sum-ext, sum-le, sum-pos}
 use Rattle.words.specs.Words.{howMany}
-use Rattle.words.proofs.BitLaws.{bit-lt}
-use Rattle.words.proofs.CountLaws.{decided-one}
 use Rattle.directions.specs.Directions.{opposite}
-use Rattle.directions.proofs.DirectionLaws.{opposite-below, opposite-opposite}
 use Rattle.adjacency.specs.Tables.{Table, listOf, inList}
 use Rattle.adjacency.specs.Accepted.{Accepted}
 use Rattle.grid.specs.Grid.{Grid, cells, neighbour}
-use Rattle.grid.proofs.GridLaws.{neighbour-inside}
 use Rattle.consistency.specs.Domains.{possible, filled, Fit}
 use Rattle.consistency.specs.Consistent.{Consistent}
+use Rattle.loops.proofs.SumLaws.{sum-ext, sum-le, sum-pos}
+use Rattle.words.proofs.BitLaws.{bit-lt}
+use Rattle.words.proofs.CountLaws.{decided-one}
+use Rattle.directions.proofs.DirectionLaws.{opposite-below, opposite-opposite}
+use Rattle.grid.proofs.GridLaws.{neighbour-inside}
 use Rattle.adjacency.proofs.Times.{times, elem-pos, pos-elem, times-sum, times-agree}
 use Rattle.consistency.proofs.DomainLaws.{pattern-below, cell-below, possible-filled, fit-filled}
 use Rattle.consistency.proofs.Counting.{supports, supportsBy, once}

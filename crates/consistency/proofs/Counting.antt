@@ -1,16 +1,16 @@
 -- The counting argument, over functions: what is possible, the supports, and how many supports are still to be taken.
 -- Main property: taking one support that is due keeps the counts exact, and a pattern whose last support is taken is in no consistent subset.
 -- Assumes nothing.
-use mathlib.Core.Path.{_≡_, refl, sym, ap, _∙_}
 use mathlib.Core.Option.{Option, none, some}
+use mathlib.Core.Path.{_≡_, refl, sym, ap, _∙_}
 use Prim.Native.Nat.{ℕ, zero, suc, _+_, _*_, _/_, _%_, _≤_, _<_}
 use native.Mathlib.Decide.{ℕ-discrete}
 use native.Mathlib.Nat.{le-refl, mul-le-mul-right}
 use native.Mathlib.Omega.{arith}
 use lib.Arith.{digits-div, digits-mod}
 use Rattle.loops.specs.Sums.{sumTo}
-use Rattle.loops.proofs.SumLaws.{same, same-yes, same-no, sum-ext, sum-mono, sum-at}
 use Rattle.consistency.specs.Worklist.{place}
+use Rattle.loops.proofs.SumLaws.{same, same-yes, same-no, sum-ext, sum-mono, sum-at}
 
 -- what gives support to what: `back n d` is the cell whose neighbour in direction d is n, and `ways r d q` how often q stands in r's list for d
 pub record Net : Type 0 where
@@ -102,7 +102,7 @@ supports-less N A B c p l h n q d = supports-less-by N (N .back n d) A B c p l h
 
 slot-inj : (P n q n′ q′ : ℕ) → q < P → q′ < P → n * P + q ≡ n′ * P + q′ → (n ≡ n′) × (q ≡ q′)
 slot-inj P n q n′ q′ h h′ e =
-    (sym (digits-div n h) ∙ ap (λ (x : ℕ). _/_ x P) e ∙ digits-div n′ h′, sym (digits-mod n h) ∙ ap (λ (x : ℕ). _%_ x P) e ∙ digits-mod n′ h′)
+    (sym (digits-div n h) ∙ ap (λ (x : ℕ). x / P) e ∙ digits-div n′ h′, sym (digits-mod n h) ∙ ap (λ (x : ℕ). x % P) e ∙ digits-mod n′ h′)
 
 pub place-inj : (P n q d n′ q′ d′ : ℕ) → q < P → q′ < P → d < 4 → d′ < 4 → place P n q d ≡ place P n′ q′ d′ → (n ≡ n′) × (q ≡ q′) × (d ≡ d′)
 place-inj P n q d n′ q′ d′ h h′ k k′ e = let (e₁, e₂) = slot-inj P n q n′ q′ h h′ (omega arith) in (e₁, e₂, omega arith)

@@ -1,20 +1,20 @@
 -- Laws of domains: a pattern that is removed, all patterns, subsets, and when a cell is empty. Follows docs/RULES.md, "Domains".
 -- Assumes nothing.
-use mathlib.Core.Path.{_≡_, refl, sym, ap, _∙_}
-use mathlib.Core.Bool.{Bool, true, false, cond, _||_, or-assoc, or-comm, false≢true}
+use mathlib.Core.Bool.{Bool, true, false, _||_, or-assoc, or-comm, false≢true}
 use mathlib.Core.List.{List, [], _∷_}
-use Prim.Native.Nat.{ℕ, zero, suc, _+_, _-_, _*_, _^_, _≤_, _<_}
+use mathlib.Core.Path.{_≡_, refl, sym, ap, _∙_}
+use Prim.Native.Nat.{ℕ, zero, suc, _≤_, _<_}
 use native.Mathlib.Decide.{ℕ-discrete, decLt}
 use native.Mathlib.Omega.{arith}
 use lib.Dec.{eqb}
-use lib.ListN.{length, getD, set, replicate, length-set, length-replicate, getD-replicate, List·getD-eq-default}
+use lib.ListN.{length, getD, replicate, length-set, length-replicate, getD-replicate, List·getD-eq-default}
 use lib.Pow.{pow-pos, pow-mono}
 use lib.Seq.{getD-set-other, ext-getD}
-use borrow.Author.Tests.{eq-eqb, ne-eqb, eqb-true}
+use borrow.Author.Tests.{eq-eqb, ne-eqb}
 use Rattle.words.specs.Words.{bit, without, full}
+use Rattle.consistency.specs.Domains.{possible, removed, filled, Fit, Sub, emptied, settledAs}
 use Rattle.words.proofs.BitLaws.{bit-lt, bit-le, bit-not, bit-none, bit-below, bit-full, full-lt, word-ext}
 use Rattle.words.proofs.ChangeLaws.{bit-without, bit-without-other, without-le}
-use Rattle.consistency.specs.Domains.{possible, removed, filled, Fit, Sub, emptied, settledAs}
 
 -- ---- a pattern is removed
 
@@ -23,9 +23,11 @@ getD-removed [] c p = omega (arith, without-le 0 p)
 getD-removed (w ∷ D) zero p = refl
 getD-removed (w ∷ D) (suc c) p = getD-removed D c p
 
+-- it is possible no more
 pub possible-removed : (D : List ℕ) (c p : ℕ) → possible (removed D c p) c p ≡ 0
 possible-removed D c p = ap (λ (w : ℕ). bit w p) (getD-removed D c p) ∙ bit-without (getD D c 0) p
 
+-- and all else stays
 pub possible-removed-other : (D : List ℕ) (c p m r : ℕ) → (m ≡ c → r ≡ p → ⊥) → possible (removed D c p) m r ≡ possible D m r
 possible-removed-other D c p m r f =
     elim (ℕ-discrete m c) [
@@ -47,9 +49,11 @@ fit-removed {P} {n} {D} F c p =
 -- ---- domains that fit
 
 module _ {P n : ℕ} {D : List ℕ} (F : Fit P n D) (c p : ℕ) (h : possible D c p ≡ 1) where
+  -- what is possible is of the P patterns
   pub pattern-below : p < P
   pattern-below = bit-below (getD D c 0) P p (F .words c) h
 
+  -- and at one of the n cells
   pub cell-below : c < n
   cell-below =
       elim (decLt c n) [
@@ -59,6 +63,7 @@ module _ {P n : ℕ} {D : List ℕ} (F : Fit P n D) (c p : ℕ) (h : possible D 
 
 -- ---- subsets
 
+-- a subset, by 0 and 1
 pub sub-le : (D E : List ℕ) → Sub D E → (c p : ℕ) → possible D c p ≤ possible E c p
 sub-le D E h c p = elim (ℕ-discrete (possible D c p) 1) [ yes e ↦ omega (arith, h c p e) | no e ↦ omega (arith, bit-not (getD D c 0) p e) ]
 
@@ -92,6 +97,7 @@ sub-filled {P} {n} F c p h = possible-filled P n c p (cell-below F c p h) (patte
 
 -- ---- empty cells
 
+-- which cell is empty, and back
 pub emptied-at : (D : List ℕ) → emptied D ≡ true → (c : ℕ) × (c < length D) × (getD D c 0 ≡ 0)
 unfolding emptied
 emptied-at [] e = absurd (false≢true e)
@@ -119,6 +125,7 @@ emptied-removed (w ∷ D) zero p h =
 emptied-removed (w ∷ D) (suc c) p h =
     or-assoc (eqb w 0) (emptied D) (eqb (without (getD D c 0) p) 0) ∙ ap (λ (b : Bool). eqb w 0 || b) (emptied-removed D c p (omega arith))
 
+-- no cell is empty where there is a pattern
 pub emptied-filled : (P n : ℕ) → 1 ≤ P → emptied (filled P n) ≡ false
 unfolding emptied full
 emptied-filled P zero h = refl
@@ -133,6 +140,7 @@ emptied-sub {P} {n} {D} {E} F G h e =
 
 -- ---- what is written of domains
 
+-- every cell is empty where one is, and else nothing changes
 pub settled-empty : (D : List ℕ) → emptied D ≡ true → settledAs D ≡ replicate (length D) 0
 unfolding settledAs
 settled-empty D e = rw e
@@ -149,13 +157,20 @@ none-at (suc n) (suc c) = none-at n c
 pub possible-none : (n c p : ℕ) → possible (replicate n 0) c p ≡ 0
 possible-none n c p = ap (λ (w : ℕ). bit w p) (none-at n c) ∙ bit-none p
 
-pub sub-settled : {P n : ℕ} {D E : List ℕ} → Fit P n D → Fit P n E → Sub D E → Sub (settledAs D) (settledAs E)
-sub-settled {P} {n} {D} {E} F G h c p k = go (emptied D) (emptied E) refl refl
+-- it is a subset, and grows with the domains
+pub settled-below : (D : List ℕ) → Sub (settledAs D) D
+settled-below D c p h = go (emptied D) refl
   where
-    go : (a b : Bool) → emptied D ≡ a → emptied E ≡ b → possible (settledAs E) c p ≡ 1
-    go true b e z = absurd (omega (arith, possible-none (length D) c p, rw (settled-empty D e) at k))
-    go false true e z = absurd (false≢true (sym e ∙ emptied-sub F G h z))
-    go false false e z = rw (settled-whole E z) (h c p (rw (settled-whole D e) at k))
+    go : (b : Bool) → emptied D ≡ b → possible D c p ≡ 1
+    go true e = absurd (omega (arith, possible-none (length D) c p, rw (settled-empty D e) at h))
+    go false e = rw (settled-whole D e) at h
+
+pub sub-settled : {P n : ℕ} {D E : List ℕ} → Fit P n D → Fit P n E → Sub D E → Sub (settledAs D) (settledAs E)
+sub-settled {P} {n} {D} {E} F G h c p k = go (emptied E) refl
+  where
+    go : (b : Bool) → emptied E ≡ b → possible (settledAs E) c p ≡ 1
+    go true e = absurd (omega (arith, possible-none (length D) c p, rw (settled-empty D (emptied-sub F G h e)) at k))
+    go false e = rw (settled-whole E e) (h c p (settled-below D c p k))
 
 pub fit-settled : {P n : ℕ} {D : List ℕ} → Fit P n D → Fit P n (settledAs D)
 fit-settled {P} {n} {D} F = go (emptied D) refl

@@ -1,18 +1,16 @@
 -- Starting domains that are given: full domains less what they lack. Their propagation leaves their greatest consistent subset.
 -- Follows docs/RULES.md, "Propagation". Assumes nothing.
-use mathlib.Core.Path.{_≡_, subst}
 use mathlib.Core.Bool.{true}
 use mathlib.Core.List.{List}
-use Prim.Native.Nat.{ℕ, _+_, _≤_, _<_}
+use mathlib.Core.Path.{_≡_, subst}
+use Prim.Native.Nat.{ℕ, _+_}
 use native.Mathlib.Omega.{arith}
-use lib.ListN.{length, getD}
-use Rattle.words.specs.Words.{bit}
 use Rattle.adjacency.specs.Tables.{Table}
 use Rattle.adjacency.specs.Accepted.{Accepted}
 use Rattle.grid.specs.Grid.{Grid, cells}
-use Rattle.consistency.specs.Domains.{possible, filled, Fit, Sub, settledAs}
+use Rattle.consistency.specs.Domains.{filled, Fit, Sub, settledAs}
 use Rattle.consistency.specs.Consistent.{Greatest}
-use Rattle.consistency.specs.Worklist.{Removal, State}
+use Rattle.consistency.specs.Worklist.{Removal}
 use Rattle.consistency.specs.Start.{reduced, missing}
 use Rattle.consistency.specs.Parts.{lessened}
 use Rattle.consistency.proofs.DomainLaws.{pattern-below, cell-below, sub-antisym, fit-filled, sub-filled}

@@ -1,7 +1,7 @@
 -- What follows from `Greatest` alone: there is one only, it grows with the domains, consistent domains are their own, and removals may wait until
 -- after it or go before. Follows docs/RULES.md, "Propagation". Assumes nothing.
-use mathlib.Core.Path.{_≡_}
 use mathlib.Core.List.{List}
+use mathlib.Core.Path.{_≡_}
 use Prim.Native.Nat.{ℕ}
 use Rattle.adjacency.specs.Tables.{Table}
 use Rattle.grid.specs.Grid.{Grid, cells}

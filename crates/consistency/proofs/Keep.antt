@@ -1,9 +1,9 @@
 -- Every step of the work list keeps a state safe, and any fuel that is enough leads to the same end: what the code's proofs cite.
 -- Assumes nothing.
-use mathlib.Core.Path.{_≡_, refl, sym, ap, subst, subst₂, _∙_}
 use mathlib.Core.Bool.{Bool, true, false, _||_}
 use mathlib.Core.List.{List, [], _∷_}
 use mathlib.Core.Option.{Option, none, some}
+use mathlib.Core.Path.{_≡_, refl, sym, ap, subst, subst₂, _∙_}
 use Prim.Native.Nat.{ℕ, zero, suc, _+_, _*_, _≤_, _<_}
 use native.Mathlib.Decide.{ℕ-discrete}
 use native.Mathlib.Omega.{arith}
@@ -11,21 +11,22 @@ use lib.Dec.{lit<, eqb}
 use lib.ListN.{length, getD, set, length-set}
 use lib.Seq.{getD-set-other}
 use Rattle.loops.specs.Sums.{sumTo}
-use Rattle.loops.proofs.SumLaws.{sum-ext, sum-at}
-use Rattle.words.specs.Words.{bit, without}
-use Rattle.words.proofs.BitLaws.{bit-lt}
+use Rattle.words.specs.Words.{without}
 use Rattle.adjacency.specs.Tables.{Table, listOf}
 use Rattle.adjacency.specs.Accepted.{AllBelow, Accepted}
 use Rattle.grid.specs.Grid.{Grid, cells, neighbour}
-use Rattle.grid.proofs.GridLaws.{neighbour-inside}
-use Rattle.consistency.specs.Domains.{possible, removed, emptied}
+use Rattle.consistency.specs.Domains.{possible, removed}
 use Rattle.consistency.specs.Worklist.{Removal, removal, State, state, place, cleared, remove, decrementAt, decrement, decrements, toward, forbidAt, forbid, forbids, spreadIn, spread, popped, propagate}
 use Rattle.consistency.specs.Safe.{total, Inside, Safe}
+use Rattle.loops.proofs.SumLaws.{sum-ext, sum-at}
+use Rattle.words.proofs.BitLaws.{bit-lt}
+use Rattle.grid.proofs.GridLaws.{neighbour-inside}
 use Rattle.consistency.proofs.DomainLaws.{possible-removed, possible-removed-other, fit-removed, emptied-removed}
 use Rattle.consistency.proofs.Counting.{Less}
 
 -- ---- what a removal does to the domains, the counts and the total
 
+-- the domains without a pattern that was possible
 pub removed-less : (D : List ℕ) (c p : ℕ) → possible D c p ≡ 1 → Less (possible D) (possible (removed D c p)) c p
 removed-less D c p h = record { was = h; gone = possible-removed D c p; rest = possible-removed-other D c p }
 
@@ -50,6 +51,7 @@ module _ (l : List ℕ) (k j : ℕ) where
   abbrev l₃ : List ℕ
   l₃ = set l₂ (k + 2) 0
 
+  -- the four counts are zero
   cleared-in : (d : ℕ) → d < 4 → j ≡ k + d → getD (cleared l k) j 0 ≡ 0
   cleared-in zero h e = keeps-zero l₃ (k + 3) j (keeps-zero l₂ (k + 2) j (keeps-zero l₁ (k + 1) j (zeroed l k j (omega arith))))
   cleared-in (suc zero) h e = keeps-zero l₃ (k + 3) j (keeps-zero l₂ (k + 2) j (zeroed l₁ (k + 1) j e))
@@ -57,11 +59,13 @@ module _ (l : List ℕ) (k j : ℕ) where
   cleared-in (suc (suc (suc zero))) h e = zeroed l₃ (k + 3) j e
   cleared-in (suc (suc (suc (suc d)))) h e = absurd (omega arith)
 
+  -- and all others stay
   pub cleared-out : ((d : ℕ) → d < 4 → j ≡ k + d → ⊥) → getD (cleared l k) j 0 ≡ getD l j 0
   cleared-out f =
       getD-set-other l₃ (k + 3) j 0 0 (f 3 (lit< tt)) ∙ getD-set-other l₂ (k + 2) j 0 0 (f 2 (lit< tt)) ∙ getD-set-other l₁ (k + 1) j 0 0 (f 1 (lit< tt))
       ∙ getD-set-other l k j 0 0 (λ e. f 0 (lit< tt) (omega arith))
 
+-- a removal takes one from the total
 pub total-less : (P n : ℕ) (D E : List ℕ) (c p : ℕ) → c < n → p < P → Less (possible D) (possible E) c p → total P n D ≡ suc (total P n E)
 unfolding total
 total-less P n D E c p hc hp l =
@@ -113,6 +117,7 @@ module _ (P n M : ℕ) {X : Type 0} where
       omega (arith, S .room, total-less P n (s .domains) (removed (s .domains) c p) c p hc hp (removed-less (s .domains) c p h))
 
   module _ (keep : Removal → List ℕ → X → X) where
+    -- a possible pattern goes
     pub safe-remove : (u : Removal) (s : State X) → u .cell < n → u .pattern < P → possible (s .domains) (u .cell) (u .pattern) ≡ 1
         → Safe P n M s → Safe P n M (remove P keep u s)
     unfolding remove
@@ -138,6 +143,7 @@ module _ (P n M : ℕ) {X : Type 0} where
         l : Less (possible (s .domains)) (possible (removed (s .domains) (u .cell) (u .pattern))) (u .cell) (u .pattern)
         l = removed-less (s .domains) (u .cell) (u .pattern) a
 
+    -- one support of `b` is taken
     pub safe-decrementAt : (c d q b : ℕ) (s : State X) → c < n → d < 4 → q < P → getD (s .counts) (place P c q d) 0 ≡ b
         → Safe P n M s → Safe P n M (decrementAt P keep c d q b s)
     unfolding decrementAt
@@ -157,15 +163,18 @@ module _ (P n M : ℕ) {X : Type 0} where
           told = S .told;
         }
 
+    -- one support is taken
     pub safe-decrement : (c d q : ℕ) (s : State X) → c < n → d < 4 → q < P → Safe P n M s → Safe P n M (decrement P keep c d q s)
     unfolding decrement
     safe-decrement c d q s hc hd hq S = safe-decrementAt c d q (getD (s .counts) (place P c q d) 0) s hc hd hq refl S
 
+    -- one support is taken from each pattern of a list
     pub safe-decrements : (c d : ℕ) (qs : List ℕ) (s : State X) → c < n → d < 4 → AllBelow P qs → Safe P n M s → Safe P n M (decrements P keep c d qs s)
     unfolding decrements
     safe-decrements c d [] s hc hd a S = S
     safe-decrements c d (q ∷ qs) s hc hd a S = safe-decrements c d qs (decrement P keep c d q s) hc hd (a .1) (safe-decrement c d q s hc hd (a .0) S)
 
+    -- the same at a neighbour, where there is one
     pub safe-toward : (o : Option ℕ) (d : ℕ) (qs : List ℕ) (s : State X) → ((c : ℕ) → o ≡ some c → c < n) → d < 4 → AllBelow P qs
         → Safe P n M s → Safe P n M (toward P keep o d qs s)
     unfolding toward
@@ -178,16 +187,19 @@ module _ (P n M : ℕ) {X : Type 0} where
     safe-forbidAt zero u s hc hp e S = S
     safe-forbidAt (suc b) u s hc hp e S = safe-remove u s hc hp (omega (arith, bit-lt (getD (s .domains) (u .cell) 0) (u .pattern))) S
 
+    -- a removal that is asked for is done or let be
     pub safe-forbid : (u : Removal) (s : State X) → u .cell < n → u .pattern < P → Safe P n M s → Safe P n M (forbid P keep u s)
     unfolding forbid
     safe-forbid u s hc hp S = safe-forbidAt (possible (s .domains) (u .cell) (u .pattern)) u s hc hp refl S
 
+    -- removals that are asked for, in order
     pub safe-forbids : (us : List Removal) (s : State X) → Inside P n us → Safe P n M s → Safe P n M (forbids P keep us s)
     unfolding forbids
     safe-forbids [] s i S = S
     safe-forbids (u ∷ us) s i S = safe-forbids us (forbid P keep u s) (i .2) (safe-forbid u s (i .0) (i .1) S)
 
 module _ (t : Table) (g : Grid) (A : Accepted t) {X : Type 0} (keep : Removal → List ℕ → X → X) where
+  -- a removal spreads in one direction
   pub safe-spreadIn : (M : ℕ) (u : Removal) (d : ℕ) (s : State X) → u .cell < cells g → u .pattern < t .count → d < 4
       → Safe (t .count) (cells g) M s → Safe (t .count) (cells g) M (spreadIn t g keep u d s)
   unfolding spreadIn
@@ -195,6 +207,7 @@ module _ (t : Table) (g : Grid) (A : Accepted t) {X : Type 0} (keep : Removal �
       safe-toward (t .count) (cells g) M keep (neighbour g (u .cell) d) d (listOf t (u .pattern) d) s (λ c. neighbour-inside g (u .cell) d c hc hd) hd
       (A .listed .below (u .pattern) d hp hd) S
 
+  -- a removal spreads in all four
   pub safe-spread : (M : ℕ) (u : Removal) (s : State X) → u .cell < cells g → u .pattern < t .count
       → Safe (t .count) (cells g) M s → Safe (t .count) (cells g) M (spread t g keep u s)
   unfolding spread
@@ -202,8 +215,8 @@ module _ (t : Table) (g : Grid) (A : Accepted t) {X : Type 0} (keep : Removal �
       safe-spreadIn M u 3 _ hc hp (lit< tt)
       (safe-spreadIn M u 2 _ hc hp (lit< tt) (safe-spreadIn M u 1 _ hc hp (lit< tt) (safe-spreadIn M u 0 s hc hp (lit< tt) S)))
 
-  -- a turn of the work list: the last removal is popped and spread
   module _ (s : State X) (u : Removal) (us : List Removal) (e : s .pending ≡ u ∷ us) where
+    -- a turn of the work list: the last removal is popped and spreads
     pub safe-turn : (M : ℕ) → Safe (t .count) (cells g) (suc M) s → Safe (t .count) (cells g) M (spread t g keep u (popped us s))
     safe-turn M S =
         let (hc, hp) = pending-inside (t .count) (cells g) (suc M) s u us e S in
@@ -213,12 +226,13 @@ module _ (t : Table) (g : Grid) (A : Accepted t) {X : Type 0} (keep : Removal �
     pub turn-less : (M : ℕ) → Safe (t .count) (cells g) M s
         → length ((spread t g keep u (popped us s)) .pending) + total (t .count) (cells g) ((spread t g keep u (popped us s)) .domains)
         < length (s .pending) + total (t .count) (cells g) (s .domains)
-    turn-less M S =
-        let W = length us + total (t .count) (cells g) (s .domains) in
-        let tight : Safe (t .count) (cells g) (suc W) s =
-        record { sized = S .sized; fit = S .fit; inside = S .inside; room = omega (arith, ap length e); dead = S .dead; told = S .told }
-        in
-        omega (arith, safe-turn W tight .room, ap length e)
+    turn-less M S = omega (arith, safe-turn W tight .room, ap length e)
+      where
+        W : ℕ
+        W = length us + total (t .count) (cells g) (s .domains)
+
+        tight : Safe (t .count) (cells g) (suc W) s
+        tight = record { sized = S .sized; fit = S .fit; inside = S .inside; room = omega (arith, ap length e); dead = S .dead; told = S .told }
 
   safe-run : (M f : ℕ) (counts domains : List ℕ) (l : List Removal) (empty : Bool) (x : X)
       → Safe (t .count) (cells g) M (state counts domains l empty x) → Safe (t .count) (cells g) M (propagate t g keep f (state counts domains l empty x))
@@ -232,6 +246,7 @@ module _ (t : Table) (g : Grid) (A : Accepted t) {X : Type 0} (keep : Removal �
       safe-more (t .count) (cells g) M (suc M) (omega arith) _
       (safe-run M f (s .counts) (s .domains) (s .pending) (s .empty) (s .beside) (safe-turn (state counts domains (u ∷ us) false x) u us refl M S))
 
+  -- the whole work list
   pub safe-propagate : (M f : ℕ) (s : State X) → Safe (t .count) (cells g) M s → Safe (t .count) (cells g) M (propagate t g keep f s)
   safe-propagate M f s S = safe-run M f (s .counts) (s .domains) (s .pending) (s .empty) (s .beside) S
 

@@ -1,17 +1,16 @@
 -- Laws of domains less some removals: what is left possible, in which order and how often they go does not matter, and that the work list's
 -- forbids leave it. Assumes nothing.
-use mathlib.Core.Path.{_≡_, refl, sym, ap, _∙_}
 use mathlib.Core.List.{List, [], _∷_, _++_}
 use mathlib.Core.Logic.{_↔_}
-use Prim.Native.Nat.{ℕ, zero, suc, _<_}
-use native.Mathlib.Decide.{ℕ-discrete}
+use mathlib.Core.Path.{_≡_, refl, sym, ap, _∙_}
+use Prim.Native.Nat.{ℕ, zero, suc}
 use native.Mathlib.Omega.{arith}
-use lib.ListN.{getD, set}
+use lib.ListN.{set}
 use lib.Seq.{set-getD}
-use Rattle.words.proofs.ChangeLaws.{without-unset}
 use Rattle.consistency.specs.Domains.{possible, removed, Fit, Sub}
 use Rattle.consistency.specs.Worklist.{Removal, State, remove, forbidAt, forbid, forbids}
 use Rattle.consistency.specs.Parts.{lessened, Spared, Alike}
+use Rattle.words.proofs.ChangeLaws.{without-unset}
 use Rattle.consistency.proofs.DomainLaws.{possible-removed, possible-removed-other, fit-removed, sub-antisym}
 
 pub fit-lessened : {P n : ℕ} (us : List Removal) {D : List ℕ} → Fit P n D → Fit P n (lessened us D)

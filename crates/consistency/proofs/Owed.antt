@@ -1,23 +1,23 @@
 -- What a removal owes: the supports that it is still to take are, place by place, those that the removed pattern gave.
 -- Assumes nothing.
-use mathlib.Core.Path.{_≡_, refl, ap, _∙_}
 use mathlib.Core.Bool.{cond}
-use mathlib.Core.Option.{Option, none, some}
 use mathlib.Core.List.{List, [], _∷_}
+use mathlib.Core.Option.{Option, none, some}
+use mathlib.Core.Path.{_≡_, refl, ap}
 use Prim.Native.Nat.{ℕ, _+_, _*_, _<_}
 use native.Mathlib.Decide.{ℕ-discrete}
 use native.Mathlib.Omega.{arith}
 use lib.Dec.{lit<, eqb}
 use lib.ListN.{length}
 use borrow.Author.Tests.{eq-eqb, ne-eqb}
-use Rattle.loops.proofs.SumLaws.{same, same-yes, same-no}
 use Rattle.directions.specs.Directions.{opposite}
-use Rattle.directions.proofs.DirectionLaws.{of-four}
 use Rattle.adjacency.specs.Tables.{Table, listOf}
 use Rattle.adjacency.specs.Accepted.{AllBelow, Accepted}
 use Rattle.grid.specs.Grid.{Grid, cells, neighbour}
-use Rattle.grid.proofs.GridLaws.{neighbour-inside, neighbour-opposite}
 use Rattle.consistency.specs.Worklist.{Removal, place}
+use Rattle.loops.proofs.SumLaws.{same, same-yes, same-no}
+use Rattle.directions.proofs.DirectionLaws.{of-four}
+use Rattle.grid.proofs.GridLaws.{neighbour-opposite}
 use Rattle.adjacency.proofs.Times.{times}
 use Rattle.consistency.proofs.Counting.{Net, gives, gives-yes, gives-no, place-inj}
 

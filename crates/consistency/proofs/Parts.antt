@@ -1,13 +1,13 @@
 -- Removals in parts: each part propagated before the next, in any order, with repeats, and stopped at a contradiction, they end as all together.
 -- A contradiction counts as every cell empty. Follows docs/RULES.md, "Propagation". Assumes nothing.
-use mathlib.Core.Path.{_≡_, refl, sym, ap, subst, _∙_}
 use mathlib.Core.Bool.{Bool, true, false, cond, true≢false}
 use mathlib.Core.List.{List, [], _∷_, flatten}
+use mathlib.Core.Path.{_≡_, refl, sym, subst, _∙_}
 use Prim.Native.Nat.{ℕ}
 use Rattle.adjacency.specs.Tables.{Table}
 use Rattle.adjacency.specs.Accepted.{Accepted}
 use Rattle.grid.specs.Grid.{Grid, cells}
-use Rattle.consistency.specs.Domains.{filled, Fit, Sub, emptied, settledAs}
+use Rattle.consistency.specs.Domains.{Fit, settledAs}
 use Rattle.consistency.specs.Consistent.{Greatest}
 use Rattle.consistency.specs.Worklist.{Removal, State, forbids, propagated}
 use Rattle.consistency.specs.Start.{start, reduced}

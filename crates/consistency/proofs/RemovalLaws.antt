@@ -1,9 +1,9 @@
 -- Laws of the lists of removals: which patterns they ask for and which they spare, that they are of the grid, and that lists may be joined.
 -- Follows docs/RULES.md, "Propagation". Assumes nothing.
-use mathlib.Core.Path.{_≡_, refl, sym, ap, _∙_}
 use mathlib.Core.Bool.{Bool, true, false, cond, false≢true}
 use mathlib.Core.List.{List, [], _∷_, _++_}
 use mathlib.Core.Logic.{_↔_}
+use mathlib.Core.Path.{_≡_, refl, sym, ap, _∙_}
 use Prim.Native.Nat.{ℕ, zero, suc, _+_, _≤_, _<_}
 use native.Mathlib.Decide.{ℕ-discrete}
 use native.Mathlib.Omega.{arith}
@@ -12,11 +12,11 @@ use lib.Dec.{eqb}
 use lib.ListN.{length, getD}
 use borrow.Author.Tests.{eqb-true, eq-eqb}
 use Rattle.words.specs.Words.{bit, has}
-use Rattle.words.proofs.BitLaws.{has-true, true-has}
 use Rattle.consistency.specs.Worklist.{Removal, removal}
 use Rattle.consistency.specs.Start.{failing, others, missing}
 use Rattle.consistency.specs.Parts.{Spared}
 use Rattle.consistency.specs.Safe.{Inside}
+use Rattle.words.proofs.BitLaws.{has-true, true-has}
 
 -- ---- one list after another
 

@@ -1,18 +1,17 @@
 -- The theorem of propagation: from any state that is ready, the work list leaves the greatest consistent subset of what was possible,
 -- or a contradiction exactly where that has an empty cell. Follows docs/RULES.md, "Propagation". Assumes nothing.
-use mathlib.Core.Path.{_≡_, refl, sym, ap, subst, _∙_}
 use mathlib.Core.Bool.{Bool, true, false, true≢false}
 use mathlib.Core.List.{List, [], _∷_}
-use Prim.Native.Nat.{ℕ, zero, suc, _+_, _*_, _≤_, _<_}
+use mathlib.Core.Path.{_≡_, refl, sym, ap, subst, _∙_}
+use Prim.Native.Nat.{ℕ, zero, suc, _*_, _≤_}
 use native.Mathlib.Nat.{le-refl}
 use native.Mathlib.Omega.{arith}
 use lib.ListN.{getD}
-use Rattle.words.proofs.BitLaws.{bit-lt}
 use Rattle.adjacency.specs.Tables.{Table}
 use Rattle.adjacency.specs.Accepted.{Accepted}
 use Rattle.grid.specs.Grid.{Grid, cells}
-use Rattle.consistency.specs.Domains.{possible, Fit, Sub, emptied}
-use Rattle.consistency.specs.Consistent.{Consistent, Greatest}
+use Rattle.consistency.specs.Domains.{possible, emptied}
+use Rattle.consistency.specs.Consistent.{Greatest}
 use Rattle.consistency.specs.Worklist.{Removal, State, state, spread, popped, propagate, propagated}
 use Rattle.consistency.specs.Safe.{Safe}
 use Rattle.consistency.proofs.DomainLaws.{sub-le, le-sub, emptied-sub}

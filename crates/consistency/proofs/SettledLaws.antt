@@ -1,17 +1,17 @@
 -- What a settled propagation says: which subset is left, that there is one outcome only, and that less never leaves more. A contradiction counts
 -- as every cell empty. Follows docs/RULES.md, "Propagation". Assumes nothing.
-use mathlib.Core.Path.{_≡_, refl, sym, ap, subst, subst₂, _∙_}
 use mathlib.Core.Bool.{Bool, true, false}
 use mathlib.Core.List.{List}
+use mathlib.Core.Path.{_≡_, refl, sym, ap, subst, _∙_}
 use Prim.Native.Nat.{ℕ}
-use lib.ListN.{length, replicate}
+use lib.ListN.{replicate}
 use Rattle.adjacency.specs.Tables.{Table}
 use Rattle.grid.specs.Grid.{Grid}
 use Rattle.consistency.specs.Domains.{Sub, emptied, settledAs}
 use Rattle.consistency.specs.Consistent.{Greatest}
 use Rattle.consistency.specs.Worklist.{State, state}
 use Rattle.consistency.specs.Safe.{Safe}
-use Rattle.consistency.proofs.DomainLaws.{emptied-sub, settled-empty, sub-settled}
+use Rattle.consistency.proofs.DomainLaws.{emptied-sub, settled-empty, settled-below, sub-settled}
 use Rattle.consistency.proofs.GreatestLaws.{greatest-one, greatest-mono}
 use Rattle.consistency.proofs.Settled.{Ready, Settled}
 
@@ -36,6 +36,11 @@ module _ (t : Table) (g : Grid) where
             ∙ sym (settled-empty G (sym (settled-contradiction G a) ∙ e))
         go false e = ap settledAs (greatest-one t g D (s .domains) G (settled-greatest e) a)
 
+    -- it is a subset of what there was
+    pub settled-sub : Sub (settledAs (s .domains)) D
+    settled-sub =
+        rw (settled-written (S .rest) (S .greatest)) (λ c p h. S .greatest .below c p (settled-below (S .rest) c p h))
+
   module _ {X Y : Type 0} (D E : List ℕ) (s : State X) (r : State Y) (S : Settled t g D s) (R : Settled t g E r) where
     -- there is one outcome only, however the propagation came about and whatever is kept beside the domains
     pub settled-one : D ≡ E → (settledAs (s .domains) ≡ settledAs (r .domains)) × (s .empty ≡ r .empty)
@@ -56,21 +61,22 @@ module _ (t : Table) (g : Grid) where
 
 -- ---- what is kept beside the domains may change at will
 
-module _ (t : Table) (g : Grid) {X Y : Type 0} (s : State X) (y : Y) where
+module _ {X Y : Type 0} (s : State X) (y : Y) where
   pub safe-beside : (P n M : ℕ) → Safe P n M s → Safe P n M (state (s .counts) (s .domains) (s .pending) (s .empty) y)
   safe-beside P n M S = record { sized = S .sized; fit = S .fit; inside = S .inside; room = S .room; dead = S .dead; told = S .told }
 
-  pub ready-beside : Ready t g s → Ready t g (state (s .counts) (s .domains) (s .pending) (s .empty) y)
-  ready-beside R = record { safe = safe-beside _ _ _ (R .safe); counted = R .counted }
+  module _ (t : Table) (g : Grid) where
+    pub ready-beside : Ready t g s → Ready t g (state (s .counts) (s .domains) (s .pending) (s .empty) y)
+    ready-beside R = record { safe = safe-beside _ _ _ (R .safe); counted = R .counted }
 
-  pub settled-beside : (D : List ℕ) → Settled t g D s → Settled t g D (state (s .counts) (s .domains) (s .pending) (s .empty) y)
-  settled-beside D S =
-      record {
-        rest = S .rest;
-        greatest = S .greatest;
-        contradiction = S .contradiction;
-        left = S .left;
-        ended = S .ended;
-        ready = λ e. ready-beside (S .ready e);
-        safe = safe-beside _ _ _ (S .safe);
-      }
+    pub settled-beside : (D : List ℕ) → Settled t g D s → Settled t g D (state (s .counts) (s .domains) (s .pending) (s .empty) y)
+    settled-beside D S =
+        record {
+          rest = S .rest;
+          greatest = S .greatest;
+          contradiction = S .contradiction;
+          left = S .left;
+          ended = S .ended;
+          ready = λ e. ready-beside (S .ready e);
+          safe = safe-beside _ _ _ (S .safe);
+        }

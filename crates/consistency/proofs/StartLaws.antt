@@ -1,25 +1,24 @@
 -- The start is ready, removals that are asked for keep a state ready, and so the propagation of any removals from full domains settles.
 -- Follows docs/RULES.md, "Propagation". Assumes nothing.
-use mathlib.Core.Path.{_≡_, refl, sym, ap, ap₂, subst, _∙_}
-use mathlib.Core.Bool.{false}
 use mathlib.Core.List.{List, [], _∷_}
+use mathlib.Core.Path.{_≡_, refl, sym, ap, ap₂, subst, _∙_}
 use Prim.Native.Nat.{ℕ, zero, suc, _+_, _*_, _/_, _%_, _≤_, _<_}
 use native.Mathlib.Omega.{arith}
 use lib.Arith.{digits-lt, digits-mod}
 use lib.ListN.{length, getD}
 use Rattle.loops.specs.Sums.{sumTo}
-use Rattle.loops.proofs.SumLaws.{sum-most}
-use Rattle.words.proofs.BitLaws.{bit-lt}
 use Rattle.directions.specs.Directions.{opposite}
-use Rattle.directions.proofs.DirectionLaws.{opposite-below}
 use Rattle.adjacency.specs.Tables.{Table, listOf}
 use Rattle.adjacency.specs.Accepted.{Accepted}
 use Rattle.grid.specs.Grid.{Grid, cells}
-use Rattle.consistency.specs.Domains.{possible, filled, emptied}
+use Rattle.consistency.specs.Domains.{possible, filled}
 use Rattle.consistency.specs.Worklist.{Removal, State, place, forbidAt, forbid, forbids}
 use Rattle.consistency.specs.Start.{tabulated, startCounts, start, reduced}
 use Rattle.consistency.specs.Parts.{lessened}
 use Rattle.consistency.specs.Safe.{total, Inside}
+use Rattle.loops.proofs.SumLaws.{sum-most}
+use Rattle.words.proofs.BitLaws.{bit-lt}
+use Rattle.directions.proofs.DirectionLaws.{opposite-below}
 use Rattle.consistency.proofs.DomainLaws.{possible-filled, fit-filled, emptied-filled}
 use Rattle.consistency.proofs.LessenedLaws.{forbids-lessened}
 use Rattle.consistency.proofs.ConsistentLaws.{supports-filled, full-consistent}

@@ -1,23 +1,23 @@
 -- Every step of the work list keeps the counts exact and takes no pattern of a consistent subset. Assumes nothing.
-use mathlib.Core.Path.{_≡_, refl, ap}
 use mathlib.Core.List.{List, [], _∷_}
 use mathlib.Core.Logic.{_⊎_, inl, inr, ⊎-elim}
 use mathlib.Core.Option.{Option, none, some}
-use Prim.Native.Nat.{ℕ, zero, suc, _+_, _*_, _≤_, _<_}
+use mathlib.Core.Path.{_≡_, refl, ap}
+use Prim.Native.Nat.{ℕ, zero, suc, _+_, _≤_, _<_}
 use native.Mathlib.Decide.{ℕ-discrete}
 use native.Mathlib.Omega.{arith}
 use lib.Arith.{digits-lt}
 use lib.Dec.{lit<}
 use lib.ListN.{getD, set}
 use lib.Seq.{getD-set-same, getD-set-other}
-use Rattle.loops.proofs.SumLaws.{same, same-no}
 use Rattle.adjacency.specs.Tables.{Table, listOf}
 use Rattle.adjacency.specs.Accepted.{AllBelow, Accepted}
 use Rattle.grid.specs.Grid.{Grid, cells, neighbour}
-use Rattle.grid.proofs.GridLaws.{neighbour-inside}
 use Rattle.consistency.specs.Domains.{possible, removed}
 use Rattle.consistency.specs.Worklist.{Removal, removal, State, place, cleared, remove, decrementAt, decrement, decrements, toward, spreadIn, spread}
 use Rattle.consistency.specs.Safe.{Safe}
+use Rattle.loops.proofs.SumLaws.{same, same-no}
+use Rattle.grid.proofs.GridLaws.{neighbour-inside}
 use Rattle.consistency.proofs.Counting.{supports, Less, Counted, skip, spend, kill, doomed, place-ne}
 use Rattle.consistency.proofs.Keep.{removed-less, cleared-out, counted-possible, safe-remove, safe-decrementAt}
 use Rattle.consistency.proofs.Owed.{netOf, Due, dueIn, dueTo, dueToward, dueOf, owed}

@@ -1,8 +1,8 @@
 -- Consistent domains, and the greatest consistent subset of given ones. Follows docs/RULES.md, "Propagation".
 -- Assumes nothing.
-use mathlib.Core.Path.{_≡_}
 use mathlib.Core.List.{List}
 use mathlib.Core.Option.{some}
+use mathlib.Core.Path.{_≡_}
 use Prim.Native.Nat.{ℕ, _<_}
 use Rattle.adjacency.specs.Tables.{Table, inList}
 use Rattle.grid.specs.Grid.{Grid, cells, neighbour}

@@ -1,9 +1,9 @@
 -- Removals asked for in parts: each part is propagated before the next one, until a cell is empty. Follows docs/RULES.md, "Propagation".
 -- Assumes nothing.
-use mathlib.Core.Path.{_≡_}
 use mathlib.Core.Bool.{cond}
 use mathlib.Core.List.{List, [], _∷_}
 use mathlib.Core.Logic.{_↔_}
+use mathlib.Core.Path.{_≡_}
 use Prim.Native.Nat.{ℕ}
 use Rattle.words.specs.Words.{without}
 use Rattle.adjacency.specs.Tables.{Table}

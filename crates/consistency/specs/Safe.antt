@@ -1,7 +1,7 @@
 -- What every state of a propagation satisfies, so that no step of the code fails: the lengths fit, a pattern that is gone has no supports,
 -- and there is room for what may still be removed. It says nothing of what the counts count. Assumes nothing.
-use mathlib.Core.Path.{_≡_}
 use mathlib.Core.List.{List, [], _∷_}
+use mathlib.Core.Path.{_≡_}
 use Prim.Native.Nat.{ℕ, _+_, _*_, _≤_, _<_}
 use lib.ListN.{length, getD}
 use Rattle.loops.specs.Sums.{sumTo}

@@ -1,6 +1,6 @@
 -- Where a propagation starts: all patterns possible, with as many supports as the lists give; starting domains are full ones less what they lack.
 -- Follows docs/RULES.md, "Propagation". Assumes nothing.
-use mathlib.Core.Bool.{Bool, true, false, cond}
+use mathlib.Core.Bool.{Bool, false, cond}
 use mathlib.Core.List.{List, [], _∷_, _++_}
 use Prim.Native.Nat.{ℕ, zero, suc, _+_, _*_, _/_, _%_}
 use lib.Dec.{eqb}

@@ -1,7 +1,7 @@
 -- The work list in its order: last removed first, directions 0 to 3, list order; a pattern goes when one of its four supports reaches zero.
 -- What is kept beside the domains at a removal is a parameter, so that the theorem does not depend on it. Follows docs/RULES.md, "Propagation".
 -- Assumes nothing.
-use mathlib.Core.Bool.{Bool, true, false, cond, _||_}
+use mathlib.Core.Bool.{Bool, cond, _||_}
 use mathlib.Core.List.{List, [], _∷_}
 use mathlib.Core.Option.{Option, none, some}
 use Prim.Native.Nat.{ℕ, zero, suc, _+_, _*_}
@@ -17,8 +17,9 @@ pub record Removal : Type 0 where
   pub cell : ℕ
   pub pattern : ℕ
 
+-- pattern p goes from cell c
 abbrev pub removal : ℕ → ℕ → Removal
-removal cell pattern = record { cell = cell; pattern = pattern }
+removal c p = record { cell = c; pattern = p }
 
 -- where the support count of pattern q at cell n from direction d stands among the counts
 abbrev pub place : ℕ → ℕ → ℕ → ℕ → ℕ
@@ -37,6 +38,7 @@ pub record State (X : Type 0) : Type 0 where
   pub empty : Bool
   pub beside : X
 
+-- a state from its parts
 abbrev pub state : {X : Type 0} → List ℕ → List ℕ → List Removal → Bool → X → State X
 state counts domains pending empty beside = record { counts = counts; domains = domains; pending = pending; empty = empty; beside = beside }
 
@@ -58,13 +60,14 @@ module _ (P : ℕ) {X : Type 0} (keep : Removal → List ℕ → X → X) where
         beside = keep u (removed (s .domains) (u .cell) (u .pattern)) (s .beside);
       }
 
-  -- one support from direction d is taken from pattern q at cell n, which has `count` of them: a pattern that is gone has none
+  -- one support from direction d is taken from pattern q at cell n, which has `count` of them: with the last one the pattern goes, and one that is gone has none
   unfoldable pub decrementAt : ℕ → ℕ → ℕ → ℕ → State X → State X
   unfolding remove
   decrementAt n d q zero s = s
   decrementAt n d q (suc zero) s = remove (removal n q) s
   decrementAt n d q (suc (suc count)) s = state (set (s .counts) (place P n q d) (suc count)) (s .domains) (s .pending) (s .empty) (s .beside)
 
+  -- the same, of as many as it has
   unfoldable pub decrement : ℕ → ℕ → ℕ → State X → State X
   unfolding decrementAt
   decrement n d q s = decrementAt n d q (getD (s .counts) (place P n q d) 0) s
@@ -87,6 +90,7 @@ module _ (P : ℕ) {X : Type 0} (keep : Removal → List ℕ → X → X) where
   forbidAt zero u s = s
   forbidAt (suc b) u s = remove u s
 
+  -- the same, of the bit that it has
   unfoldable pub forbid : Removal → State X → State X
   unfolding forbidAt bit
   forbid u s = forbidAt (possible (s .domains) (u .cell) (u .pattern)) u s
