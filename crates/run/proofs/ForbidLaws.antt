@@ -5,29 +5,35 @@ use mathlib.Core.Bool.{true, true≢false}
 use mathlib.Core.List.{List, [], _∷_, List·Memᴰ, List·Memᴰ·head, List·Memᴰ·tail, List·Memᴰ·not-nil, List·Memᴰ·cases-cons}
 use mathlib.Core.Logic.{_↔_, _⊎_, inl, inr}
 use mathlib.Core.Path.{_≡_, refl, sym, ap, _∙_, subst}
-use Prim.Native.Nat.{ℕ, _+_, _<_}
+use Prim.Native.Nat.{ℕ, _+_, _*_, _<_}
 use native.Mathlib.Omega.{arith}
 use native.Mathlib.Numerals.{add-one}
-use lib.ListN.{length}
+use lib.ListN.{length, replicate}
+use lib.Pow.{pow-pos}
+use borrow.Author.Tests.{eq-eqb, ne-eqb}
+use Rattle.adjacency.specs.Accepted.{Accepted}
 use Rattle.grid.specs.Grid.{cells}
-use Rattle.consistency.specs.Domains.{filled, settledAs, emptied}
+use Rattle.consistency.specs.Domains.{possible, Fit, settledAs, emptied}
 use Rattle.consistency.specs.Consistent.{Greatest}
-use Rattle.consistency.specs.Worklist.{Removal, State}
-use Rattle.consistency.specs.Start.{reduced}
+use Rattle.consistency.specs.Worklist.{Removal, State, state, forbidAt, forbid, forbids, propagated}
+use Rattle.consistency.specs.Start.{others, reduced}
 use Rattle.consistency.specs.Parts.{lessened, Spared, Alike}
 use Rattle.consistency.specs.Safe.{Inside}
-use Rattle.propagation.specs.Beside.{Beside}
+use Rattle.propagation.specs.Beside.{Beside, kept, unmarked}
+use Rattle.propagation.specs.Beside.{lessened as valued}
 use Rattle.run.specs.declared.Forbid.{Forbid}
-use Rattle.run.specs.Run.{Given, begun, asked, laidAll, Ended, Turn, turn, collapse, runOf}
+use Rattle.run.specs.Run.{Given, begun, reducedBy, asked, laid, laidAll, Ended, ended, turn, runOf}
 use Rattle.run.specs.Course.{Lawful, fullLess, wanted, SameForbids, Reached, forbade, Final}
-use Rattle.consistency.proofs.DomainLaws.{fit-filled, settled-empty, settled-whole}
-use Rattle.consistency.proofs.RemovalLaws.{spared-append}
-use Rattle.consistency.proofs.LessenedLaws.{lessened-alike}
-use Rattle.consistency.proofs.Settled.{Settled}
+use Rattle.words.proofs.BitLaws.{bit-not, bit-none, word-ext}
+use Rattle.consistency.proofs.DomainLaws.{pattern-below, at-emptied, emptied-sub, fit-filled}
+use Rattle.consistency.proofs.RemovalLaws.{spared-append, others-inside, spared-others}
+use Rattle.consistency.proofs.LessenedLaws.{fit-lessened, possible-lessened, lessened-alike}
+use Rattle.consistency.proofs.Keep.{propagate-none}
+use Rattle.consistency.proofs.Settled.{Ready, Settled}
 use Rattle.consistency.proofs.SettledLaws.{settled-contradiction, settled-written, settled-one}
 use Rattle.consistency.proofs.StartLaws.{reduced-settled}
-use Rattle.run.proofs.StateLaws.{forbade-settled}
-use Rattle.run.proofs.CourseLaws.{run-final, used-choices}
+use Rattle.run.proofs.StateLaws.{reducedBy-settled, forbade-settled}
+use Rattle.run.proofs.CourseLaws.{run-final, used-choices, final-collapse}
 use Rattle.run.proofs.EndLaws.{end-empty, end-written}
 
 -- ---- what forbids spare
@@ -54,6 +60,49 @@ wanted-alike P fs gs same c p =
     let b = wanted-spares P gs c p in
     (λ h. b .1 (λ f m. a .0 h f (same f .1 m)), λ h. a .1 (λ f m. b .0 h f (same f .0 m)))
 
+-- ---- a pattern that is gone
+
+module _ (i : Given) (A : Accepted (i .table)) (s : State Beside) (f : Forbid) (gone : possible (s .domains) (f .cell) (f .pattern) ≡ 0) where
+  -- what follows the removals that are asked for
+  spreads : State Beside → State Beside
+  spreads r =
+      propagated (i .table) (i .grid) (kept (i .weights) (i .noise) (cells (i .grid)))
+      (state (r .counts) (r .domains) (r .pending) (r .empty) (unmarked (cells (i .grid)) (r .beside)))
+
+  none-removed : f .keep ≡ 0 → forbids (i .table .count) (valued (i .weights)) (asked (i .table .count) f) s ≡ s
+  unfolding asked forbids forbid forbidAt
+  none-removed k = rw (eq-eqb (f .keep) 0 k, gone)
+
+  -- forbidding it changes nothing: no domain, no support count, no running value and no note
+  pub forbid-gone : f .keep ≡ 0 → s .pending ≡ [] → laid i f s ≡ state (s .counts) (s .domains) (s .pending) (s .empty) (unmarked (cells (i .grid)) (s .beside))
+  unfolding laid reducedBy spreads propagated
+  forbid-gone k e = ap spreads (none-removed k) ∙ propagate-none (i .table) (i .grid) A (kept (i .weights) (i .noise) (cells (i .grid))) (cells (i .grid) * i .table .count) _ e
+
+  -- keeping only it is a contradiction
+  pub keep-gone : (f .keep ≡ 0 → ⊥) → f .cell < cells (i .grid) → Ready (i .table) (i .grid) s → laid i f s .empty ≡ true
+  unfolding laid asked
+  keep-gone k h R = rw (ne-eqb (f .keep) 0 k) (S .contradiction ∙ emptied-sub (S .greatest .fit) F (S .greatest .below) empty)
+    where
+      us : List Removal
+      us = others (i .table .count) (f .cell) (f .pattern)
+
+      S : Settled (i .table) (i .grid) (lessened us (s .domains)) (reducedBy i us s)
+      S = reducedBy-settled i A us s (others-inside (i .table .count) (cells (i .grid)) (f .cell) (f .pattern) h) R
+
+      F : Fit (i .table .count) (cells (i .grid)) (lessened us (s .domains))
+      F = fit-lessened us (R .safe .fit)
+
+      none : (p : ℕ) → possible (lessened us (s .domains)) (f .cell) p ≡ 1 → ⊥
+      none p e =
+          let (spared, was) = possible-lessened us (s .domains) (f .cell) p .0 e in
+          let same = spared-others (i .table .count) (f .cell) (f .pattern) (f .cell) p (pattern-below F (f .cell) p e) .0 spared refl in
+          omega (arith, gone, was, ap (λ (q : ℕ). possible (s .domains) (f .cell) q) same)
+
+      empty : emptied (lessened us (s .domains)) ≡ true
+      empty =
+          at-emptied (lessened us (s .domains)) (f .cell) (omega (arith, F .sized))
+          (word-ext (i .table .count) (F .words (f .cell)) (pow-pos (i .table .count)) (λ p _. bit-not _ p (none p) ∙ sym (bit-none p)))
+
 -- ---- the states that forbids lead to
 
 -- walked one by one, they end as the same removals all together, whatever is kept beside the domains
@@ -71,6 +120,16 @@ pub forbids-order : (i : Given) (fs gs : List Forbid) → Lawful i fs → Lawful
 forbids-order i fs gs L M same =
     settled-one (i .table) (i .grid) _ _ _ _ (forbade-settled i fs L) (forbade-settled i gs M)
     (lessened-alike (wanted (i .table .count) fs) (wanted (i .table .count) gs) (fit-filled (i .table .count) (cells (i .grid))) (wanted-alike (i .table .count) fs gs same))
+
+-- a contradiction among the forbids ends the run before any word is used
+pub forbids-contradict : (i : Given) (fs : List Forbid) → Lawful i fs → (words : List ℕ) → laidAll i fs (begun i) .empty ≡ true
+    → runOf i fs words ≡ ended 3 0 (replicate (cells (i .grid)) 0)
+forbids-contradict i fs L words e =
+    unfold runOf in (final-collapse i fs L words (record { choices = 0; state = s; reached = forbade; over = unfold turn in rw e }) (cells (i .grid) + 1) (omega arith))
+    ∙ ap (λ (n : ℕ). ended 3 0 (replicate n 0)) (forbade-settled i fs L .safe .fit .sized)
+  where
+    s : State Beside
+    s = laidAll i fs (begun i)
 
 -- ---- a run without words
 

@@ -121,12 +121,12 @@ module _ (i : Given) (fs : List Forbid) (L : Lawful i fs) (words : List ℕ) (D 
 -- ---- the theorems
 
 module _ (i : Given) (fs : List Forbid) (L : Lawful i fs) (words : List ℕ) where
-  -- appended words do not alter an end other than Paused: the end, the words used and the domains stay
-  pub appended-same : (more : List ℕ) → (runOf i fs words .end ≡ 2 → ⊥) → runOf i fs (words ++ more) ≡ runOf i fs words
+  -- an end other than Paused stays, with the words used and the domains
+  appended-same : (more : List ℕ) → (runOf i fs words .end ≡ 2 → ⊥) → runOf i fs (words ++ more) ≡ runOf i fs words
   appended-same more n = unfold runOf in (final-collapse i fs L (words ++ more) (final-longer i fs words more n (run-final i fs L words)) (cells (i .grid) + 1) (omega arith))
 
-  -- appended words never restore a pattern: the domains are a subset, or all zero
-  pub appended-sub : (more : List ℕ) → Sub (runOf i fs (words ++ more) .domains) (runOf i fs words .domains)
+  -- the domains are a subset, or all zero
+  appended-sub : (more : List ℕ) → Sub (runOf i fs (words ++ more) .domains) (runOf i fs words .domains)
   appended-sub more = go (ℕ-discrete (runOf i fs words .end) 2)
     where
       F : Final i fs words (runOf i fs words)
@@ -143,6 +143,11 @@ module _ (i : Given) (fs : List Forbid) (L : Lawful i fs) (words : List ℕ) whe
       go : Dec (runOf i fs words .end ≡ 2) → Sub (runOf i fs (words ++ more) .domains) (runOf i fs words .domains)
       go (no n) = rw (appended-same more n) (λ c p h. h)
       go (yes z) = onward z
+
+  -- appended words never alter an end other than Paused, nor restore a pattern
+  pub appended-words : (more : List ℕ)
+      → ((runOf i fs words .end ≡ 2 → ⊥) → runOf i fs (words ++ more) ≡ runOf i fs words) × Sub (runOf i fs (words ++ more) .domains) (runOf i fs words .domains)
+  appended-words more = (appended-same more, appended-sub more)
 
   -- with as many words as cells no run is Paused
   pub enough-words : cells (i .grid) ≤ length words → runOf i fs words .end ≡ 2 → ⊥
