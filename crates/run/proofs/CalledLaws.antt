@@ -1,18 +1,17 @@
 -- A run as it is called: what the refusals leave, that a refusal changes nothing, and that no second outcome fits.
 -- Follows docs/RULES.md, "Run" and "Refusals". Assumes nothing.
-use mathlib.Core.Bool.{Bool, false, not, _||_}
+use mathlib.Core.Bool.{false, not, _||_}
 use mathlib.Core.List.{List, [], _∷_}
 use mathlib.Core.Path.{_≡_, refl, sym, ap, _∙_}
-use Prim.Native.Nat.{ℕ, zero, suc, _*_, _≤_, _<_}
-use native.Mathlib.Omega.{arith}
-use lib.Dec.{leb, ltb, eqb}
+use Prim.Native.Nat.{ℕ, suc, _*_, _≤_}
+use lib.Dec.{ltb, eqb}
 use lib.ListN.{length, getD}
 use borrow.Author.Tests.{eqb-true, ltb-false, leb-false, not-false}
 use Rattle.refusals.specs.Refusals.{firstOf, Asked, refused, answer}
 use Rattle.adjacency.specs.Tables.{Table}
 use Rattle.adjacency.specs.Checks.{badWeights, badOffsets}
 use Rattle.adjacency.specs.Lookup.{badPattern}
-use Rattle.grid.specs.Grid.{Grid, cells, badCell, Sized}
+use Rattle.grid.specs.Grid.{Grid, cells, Sized}
 use Rattle.run.specs.declared.Forbid.{Forbid}
 use Rattle.run.specs.declared.Answer.{Answer}
 use Rattle.run.specs.declared.Answer.the-variants.{Decided, Undecided, Paused, Contradiction, Refused}

@@ -1,17 +1,16 @@
 -- The worked cases A to K as one table under one claim, by computing: what is called, and what it must come to with every lent slice.
 -- Follows docs/RULES.md, "Run". Assumes nothing.
 use mathlib.Core.List.{List, [], _∷_, map}
-use mathlib.Core.Option.{Option, some}
+use mathlib.Core.Option.{some}
 use mathlib.Core.Path.{_≡_, refl}
 use Prim.Native.Nat.{ℕ, _*_}
 use lib.Ieee.{Float, binary32, ofBits}
-use lib.ListN.{length, replicate}
+use lib.ListN.{replicate}
 use Rattle.adjacency.specs.Tables.{Table, table}
 use Rattle.grid.specs.Grid.{Grid, grid, cells}
 use Rattle.refusals.specs.Refusals.{answer}
 use Rattle.run.specs.declared.Forbid.{Forbid}
 use Rattle.run.specs.Choice.{choiceOf}
-use Rattle.run.specs.Run.{Given}
 use Rattle.run.specs.Called.{Memory, memory, Outcome, called}
 
 -- two patterns that allow only the other beside them

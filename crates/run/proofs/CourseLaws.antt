@@ -1,6 +1,6 @@
 -- The course of a run: each choice uses one word and leaves fewer open cells, so there are at most as many choices as cells, the run ends, and its
 -- fuel is never exhausted. Follows docs/RULES.md, "Run". Assumes nothing.
-use mathlib.Core.Bool.{Bool, true, false}
+use mathlib.Core.Bool.{false}
 use mathlib.Core.List.{List}
 use mathlib.Core.Path.{_≡_, refl, sym, ap, _∙_, subst}
 use Prim.Native.Nat.{ℕ, zero, suc, _+_, _-_, _≤_, _<_}
@@ -9,12 +9,12 @@ use lib.ListN.{length, getD}
 use Rattle.words.specs.Words.{howMany}
 use Rattle.grid.specs.Grid.{cells}
 use Rattle.consistency.specs.Domains.{possible, Sub}
-use Rattle.consistency.specs.Worklist.{Removal, State}
+use Rattle.consistency.specs.Worklist.{State}
 use Rattle.consistency.specs.Start.{others}
 use Rattle.consistency.specs.Parts.{lessened}
 use Rattle.propagation.specs.Beside.{Beside}
 use Rattle.run.specs.declared.Forbid.{Forbid}
-use Rattle.run.specs.Run.{Given, begun, laidAll, reducedBy, notesOf, Ended, Turn, turn, collapse, runOf}
+use Rattle.run.specs.Run.{Given, begun, laidAll, notesOf, Ended, Turn, turn, collapse, runOf}
 use Rattle.run.specs.Course.{Lawful, Reached, forbade, chose, Final}
 use Rattle.consistency.proofs.DomainLaws.{pattern-below}
 use Rattle.consistency.proofs.RemovalLaws.{others-inside, spared-others}

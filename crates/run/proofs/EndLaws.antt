@@ -1,10 +1,10 @@
 -- What each end of a run says of the state where it ends. Follows docs/RULES.md, "Run". Assumes nothing.
-use mathlib.Core.Bool.{Bool, true, false, cond, false≢true, true≢false}
+use mathlib.Core.Bool.{Bool, true, false, true≢false}
 use mathlib.Core.List.{List}
 use mathlib.Core.Logic.{_↔_}
 use mathlib.Core.Option.{none, some}
 use mathlib.Core.Path.{_≡_, refl, sym, ap, _∙_, subst}
-use Prim.Native.Nat.{ℕ, _+_, _^_, _≤_, _<_}
+use Prim.Native.Nat.{ℕ, _^_, _≤_, _<_}
 use native.Mathlib.Decide.{ℕ-discrete}
 use native.Mathlib.Omega.{arith}
 use lib.Dec.{eqb}
@@ -15,10 +15,9 @@ use Rattle.loops.specs.Tests.{every}
 use Rattle.words.specs.Words.{howMany}
 use Rattle.adjacency.specs.Tables.{inList}
 use Rattle.grid.specs.Grid.{cells, neighbour}
-use Rattle.consistency.specs.Domains.{possible, filled, Fit, emptied, settledAs}
-use Rattle.consistency.specs.Consistent.{Consistent, Greatest}
+use Rattle.consistency.specs.Domains.{possible, Fit, emptied, settledAs}
+use Rattle.consistency.specs.Consistent.{Greatest}
 use Rattle.consistency.specs.Worklist.{State}
-use Rattle.consistency.specs.Parts.{lessened}
 use Rattle.propagation.specs.Beside.{Beside}
 use Rattle.run.specs.declared.Forbid.{Forbid}
 use Rattle.run.specs.Observer.{countsAt, Sight}

@@ -1,14 +1,13 @@
 -- Forbids without choices: walked one by one from full domains, in any order, with repeats, and stopped at a contradiction, they end as all together:
 -- with the greatest consistent subset of full domains less everything that they ask to go. A contradiction counts as every cell empty.
 -- Follows docs/RULES.md, "Run". Assumes nothing.
-use mathlib.Core.Bool.{true, true≢false}
+use mathlib.Core.Bool.{true}
 use mathlib.Core.List.{List, [], _∷_, List·Memᴰ, List·Memᴰ·head, List·Memᴰ·tail, List·Memᴰ·not-nil, List·Memᴰ·cases-cons}
 use mathlib.Core.Logic.{_↔_, _⊎_, inl, inr}
 use mathlib.Core.Path.{_≡_, refl, sym, ap, _∙_, subst}
 use Prim.Native.Nat.{ℕ, _+_, _*_, _<_}
 use native.Mathlib.Omega.{arith}
-use native.Mathlib.Numerals.{add-one}
-use lib.ListN.{length, replicate}
+use lib.ListN.{replicate}
 use lib.Pow.{pow-pos}
 use borrow.Author.Tests.{eq-eqb, ne-eqb}
 use Rattle.adjacency.specs.Accepted.{Accepted}
@@ -19,10 +18,9 @@ use Rattle.consistency.specs.Worklist.{Removal, State, state, forbidAt, forbid,
 use Rattle.consistency.specs.Start.{others, reduced}
 use Rattle.consistency.specs.Parts.{lessened, Spared, Alike}
 use Rattle.consistency.specs.Safe.{Inside}
-use Rattle.propagation.specs.Beside.{Beside, kept, unmarked}
-use Rattle.propagation.specs.Beside.{lessened as valued}
+use Rattle.propagation.specs.Beside.{Beside, kept, unmarked, lessened as valued}
 use Rattle.run.specs.declared.Forbid.{Forbid}
-use Rattle.run.specs.Run.{Given, begun, reducedBy, asked, laid, laidAll, Ended, ended, turn, runOf}
+use Rattle.run.specs.Run.{Given, begun, reducedBy, asked, laid, laidAll, ended, turn, runOf}
 use Rattle.run.specs.Course.{Lawful, fullLess, wanted, SameForbids, Reached, forbade, Final}
 use Rattle.words.proofs.BitLaws.{bit-not, bit-none, word-ext}
 use Rattle.consistency.proofs.DomainLaws.{pattern-below, at-emptied, emptied-sub, fit-filled}

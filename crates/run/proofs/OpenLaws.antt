@@ -1,11 +1,10 @@
 -- Open cells, those with two patterns or more: a choice leaves fewer of them, for it decides one for good. Assumes nothing.
-use mathlib.Core.Bool.{Bool, true, false}
 use mathlib.Core.List.{List}
-use mathlib.Core.Path.{_≡_, refl, sym, ap, _∙_}
-use Prim.Native.Nat.{ℕ, _+_, _-_, _≤_, _<_, min}
+use mathlib.Core.Path.{_≡_, _∙_}
+use Prim.Native.Nat.{ℕ, _-_, _≤_, _<_, min}
 use native.Mathlib.Decide.{ℕ-discrete}
 use native.Mathlib.Omega.{arith}
-use lib.ListN.{length, getD}
+use lib.ListN.{getD}
 use Rattle.loops.specs.Sums.{sumTo}
 use Rattle.words.specs.Words.{bit, without, howMany}
 use Rattle.consistency.specs.Domains.{possible, Sub}

@@ -1,17 +1,15 @@
 -- Programs that the contract of `run` shuts out, each with an input on which the definition differs from it, and errors that look right.
 -- Follows docs/RULES.md, "Run" and "Propagation". Assumes nothing.
-use mathlib.Core.Bool.{Bool, true, false}
-use mathlib.Core.List.{List, [], _∷_, map}
+use mathlib.Core.List.{List, [], _∷_}
 use mathlib.Core.Path.{_≡_, refl, ap}
 use Prim.Native.Nat.{ℕ, zero, suc}
 use native.Mathlib.Omega.{arith}
-use lib.Ieee.{binary32, ofBits, lt, sub, div, mul, ofInt, eq}
+use lib.Ieee.{ofBits, lt, sub, div, mul, ofInt, eq}
 use lib.ListN.{length, getD, take, replicate}
 use Rattle.adjacency.specs.Tables.{Table, table}
-use Rattle.grid.specs.Grid.{Grid, grid, cells}
+use Rattle.grid.specs.Grid.{grid, cells}
 use Rattle.refusals.specs.Refusals.{Asked, refused, answer}
-use Rattle.run.specs.declared.Forbid.{Forbid}
-use Rattle.run.specs.Called.{Memory, End, Outcome, called}
+use Rattle.run.specs.Called.{End, Outcome}
 use Rattle.run.proofs.Cases.{checker, free, forbid, keepOnly, Call, call, Case, case, found, stated, Hold, A, B, G, H, I}
 
 -- ---- errors that look right

@@ -3,20 +3,18 @@
 -- Follows docs/RULES.md, "Run" and "Propagation". Assumes nothing.
 use mathlib.Core.Bool.{Bool, true, false, cond}
 use mathlib.Core.List.{List, [], _∷_, _++_}
-use mathlib.Core.Path.{_≡_, refl, sym, ap, _∙_, subst}
+use mathlib.Core.Path.{_≡_, refl, sym, subst}
 use Prim.Native.Nat.{ℕ, _<_}
 use native.Mathlib.Omega.{arith}
 use lib.Dec.{eqb}
-use Rattle.adjacency.specs.Tables.{Table}
 use Rattle.adjacency.specs.Accepted.{Accepted}
-use Rattle.grid.specs.Grid.{Grid, cells}
+use Rattle.grid.specs.Grid.{cells}
 use Rattle.consistency.specs.Domains.{filled, Fit}
 use Rattle.consistency.specs.Worklist.{Removal, State, forbids}
 use Rattle.consistency.specs.Start.{others}
 use Rattle.consistency.specs.Parts.{lessened}
 use Rattle.consistency.specs.Safe.{Inside}
-use Rattle.propagation.specs.Beside.{Beside, kept, unmarked}
-use Rattle.propagation.specs.Beside.{lessened as valued}
+use Rattle.propagation.specs.Beside.{Beside, kept, unmarked, lessened as valued}
 use Rattle.run.specs.declared.Forbid.{Forbid}
 use Rattle.run.specs.Run.{Given, begun, reducedBy, asked, laid, laidAll, firstBeside, turn, Turn}
 use Rattle.run.specs.Course.{Placed, Lawful, fullLess, wanted, Reached, forbade, chose}

@@ -3,11 +3,10 @@
 use mathlib.Core.Bool.{Bool, true, false, cond}
 use mathlib.Core.List.{List}
 use mathlib.Core.Option.{Option, none, some, Option·some-injective, Option·none-ne-some}
-use mathlib.Core.Path.{_≡_, refl, sym, ap, _∙_, subst}
+use mathlib.Core.Path.{_≡_, refl, sym, ap, subst}
 use Prim.Native.Nat.{ℕ, suc, _+_, _%_, _≤_, _<_}
 use native.Mathlib.Nat.{mod-lt}
 use native.Mathlib.Numerals.{add-one}
-use native.Mathlib.Omega.{arith}
 use lib.Dec.{ltb}
 use lib.Ieee.{Float}
 use lib.ListN.{length, getD, replicate}
@@ -23,6 +22,7 @@ use Rattle.run.specs.declared.inner.Observed.the-variants.{Cell, Nothing
 use Rattle.run.specs.Observer.{Notes, countsAt, observe, Sight, sightOf}
 use Rattle.run.specs.Choice.{Draw, draw, taken}
 use Rattle.run.specs.Run.{Given, reducedBy, notesOf, sighted, Ended, ended, decided, still, chosen, Turn, drawn, seen, turn, collapse}
+use Rattle.run.proofs.DrawLaws.{draw-none, draw-left, draw-one, draw-below}
 use Rattle.run.proofs.ChoiceLaws.{taken-some, taken-in}
 use Rattle.run.proofs.ObserverLaws.{valid-counts, valid-weight, nothing-counts, observed-seen}
 
@@ -79,25 +79,34 @@ module _ (i : Given) (words : List ℕ) (used : ℕ) (s : State Beside) where
     ends : {e : Ended} → Over e → Turned (Turn.over e)
     goes : {more : ℕ} {s′ : State Beside} → Chosen more s′ → Turned (Turn.on more s′)
 
-  chosen-by : (x : Sight) → s .empty ≡ false → sighted i s ≡ some x → used < length words
-      → Chosen (used + 1) (chosen i (x .cell) (taken (i .weights) (getD (s .domains) (x .cell) 0) (getD words used 0 % weightSum (i .weights) (getD (s .domains) (x .cell) 0))) s)
-  unfolding sighted notesOf chosen
-  chosen-by x e q l =
-      let w = getD (s .domains) (x .cell) 0 in
-      let (inside, counting) = sight-counts (notesOf i s) x q in
-      let r = getD words used 0 % weightSum (i .weights) w in
-      let (p, z) = taken-some (i .weights) w r (mod-lt (getD words used 0) (valid-weight (i .weights) (getD (notesOf i s .counts) (x .cell) 0) w counting)) in
-      record {
-        whole = e;
-        cell = x .cell;
-        pattern = p;
-        inside = inside;
-        counting = counting;
-        present = taken-in (i .weights) w r p z .0;
-        left = l;
-        one = add-one used;
-        made = ap (λ (o : Option ℕ). chosen i (x .cell) o s) z;
-      }
+  -- what a draw comes to, at the cell that is sighted
+  module _ (x : Sight) (e : s .empty ≡ false) (q : sighted i s ≡ some x) where
+    abbrev word : ℕ
+    word = getD (s .domains) (x .cell) 0
+
+    chosen-by : (d : Draw) → draw words used (weightSum (i .weights) word) ≡ some d → Chosen (d .used) (chosen i (x .cell) (taken (i .weights) word (d .number)) s)
+    unfolding sighted notesOf chosen
+    chosen-by d z =
+        let (inside, counting) = sight-counts (notesOf i s) x q in
+        let sum = weightSum (i .weights) word in
+        let low = draw-below words used sum d z (valid-weight (i .weights) (getD (notesOf i s .counts) (x .cell) 0) word counting) in
+        let (p, t) = taken-some (i .weights) word (d .number) low in
+        record {
+          whole = e;
+          cell = x .cell;
+          pattern = p;
+          inside = inside;
+          counting = counting;
+          present = taken-in (i .weights) word (d .number) p t .0;
+          left = draw-left words used sum d z;
+          one = draw-one words used sum d z;
+          made = ap (λ (o : Option ℕ). chosen i (x .cell) o s) t;
+        }
+
+    turned-draw : (o : Option Draw) → draw words used (weightSum (i .weights) word) ≡ o → Turned (drawn i used s (x .cell) o)
+    unfolding drawn
+    turned-draw none z = ends (paused e x q (draw-none words used (weightSum (i .weights) word) z))
+    turned-draw (some d) z = goes (chosen-by d z)
 
   over-still : s .empty ≡ false → sighted i s ≡ none → Over (still used s)
   unfolding still
@@ -108,17 +117,9 @@ module _ (i : Given) (words : List ℕ) (used : ℕ) (s : State Beside) where
       go false d = stuck e q d
 
   turned-sight : (o : Option Sight) → s .empty ≡ false → sighted i s ≡ o → Turned (seen i words used s o)
-  unfolding seen drawn draw
+  unfolding seen
   turned-sight none e q = ends (over-still e q)
-  turned-sight (some x) e q = go (ltb used (length words)) refl
-    where
-      sum : ℕ
-      sum = weightSum (i .weights) (getD (s .domains) (x .cell) 0)
-
-      go : (b : Bool) → ltb used (length words) ≡ b
-          → Turned (drawn i used s (x .cell) (cond b (some (record { number = getD words used 0 % sum; used = used + 1 })) none))
-      go true l = goes (chosen-by x e q (ltb-true used (length words) l))
-      go false l = ends (paused e x q (ltb-false used (length words) l))
+  turned-sight (some x) e q = turned-draw x e q (draw words used (weightSum (i .weights) (getD (s .domains) (x .cell) 0))) refl
 
   -- what it does
   pub turned : Turned (turn i words used s)

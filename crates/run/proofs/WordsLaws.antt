@@ -3,11 +3,10 @@
 use mathlib.Core.Bool.{Bool, true, false, cond}
 use mathlib.Core.List.{List, _++_}
 use mathlib.Core.Option.{Option, none, some}
-use mathlib.Core.Path.{_≡_, refl, sym, ap, ap₂, _∙_, subst}
-use Prim.Native.Nat.{ℕ, zero, suc, _+_, _-_, _%_, _≤_, _<_}
+use mathlib.Core.Path.{_≡_, refl, sym, ap, _∙_, subst}
+use Prim.Native.Nat.{ℕ, zero, suc, _+_, _≤_, _<_}
 use native.Mathlib.Decide.{ℕ-discrete, decLt}
 use native.Mathlib.Omega.{arith}
-use lib.Dec.{ltb}
 use lib.ListN.{length, getD, replicate, length-append, List·getD-append}
 use borrow.Author.Tests.{lt-ltb, le-ltb}
 use Rattle.adjacency.specs.Weights.{weightSum}
@@ -18,28 +17,15 @@ use Rattle.propagation.specs.Beside.{Beside}
 use Rattle.run.specs.declared.Forbid.{Forbid}
 use Rattle.run.specs.Observer.{Sight}
 use Rattle.run.specs.Choice.{Draw, draw}
-use Rattle.run.specs.Run.{Given, begun, laidAll, sighted, notesOf, Ended, ended, Turn, drawn, seen, turn, collapse, runOf}
+use Rattle.run.specs.Run.{Given, sighted, notesOf, Ended, ended, Turn, drawn, seen, turn, collapse, runOf}
 use Rattle.run.specs.Course.{Lawful, Reached, forbade, chose, Final}
 use Rattle.consistency.proofs.DomainLaws.{possible-none}
+use Rattle.run.proofs.DrawLaws.{draw-longer}
 use Rattle.run.proofs.TurnLaws.{Over, contradicted, finished, stuck, paused, counts-open, turn-over, turn-on}
 use Rattle.run.proofs.StateLaws.{reached-stands}
-use Rattle.run.proofs.OpenLaws.{openCells, open-some}
+use Rattle.run.proofs.OpenLaws.{open-some}
 use Rattle.run.proofs.CourseLaws.{chosen-sub, reached-counted, run-final, reached-run, final-collapse}
 use Rattle.run.proofs.EndLaws.{end-whole, end-domains, paused-means}
-
--- ---- a draw
-
-module _ (words more : List ℕ) (used sum : ℕ) where
-  -- a word that is there is drawn, whatever words follow
-  draw-longer : used < length words → draw (words ++ more) used sum ≡ draw words used sum
-  unfolding draw
-  draw-longer h =
-      let l : used < length (words ++ more) = omega (arith, length-append words more) in
-      rw (lt-ltb used (length (words ++ more)) l, lt-ltb used (length words) h, List·getD-append words more 0 used h)
-
-  draw-none : length words ≤ used → draw words used sum ≡ none
-  unfolding draw
-  draw-none h = rw (le-ltb used (length words) h)
 
 -- ---- a turn
 
@@ -52,16 +38,14 @@ module _ (i : Given) (words more : List ℕ) (used : ℕ) (s : State Beside) whe
   seen-longer : (o : Option Sight) (x : Turn) → seen i words used s o ≡ x → Unpaused x → seen i (words ++ more) used s o ≡ x
   unfolding seen drawn
   seen-longer none x q n = q
-  seen-longer (some v) x q n = go (decLt used (length words))
+  seen-longer (some v) x q n = go (draw words used sum) refl q
     where
       sum : ℕ
       sum = weightSum (i .weights) (getD (s .domains) (v .cell) 0)
 
-      go : Dec (used < length words) → drawn i used s (v .cell) (draw (words ++ more) used sum) ≡ x
-      go (yes h) = ap (drawn i used s (v .cell)) (draw-longer words more used sum h) ∙ q
-      go (no h) =
-          let pauses : Turn.over (ended 2 used (s .domains)) ≡ x = sym (ap (drawn i used s (v .cell)) (draw-none words more used sum (omega arith))) ∙ q in
-          absurd (subst Unpaused (sym pauses) n refl)
+      go : (o : Option Draw) → draw words used sum ≡ o → drawn i used s (v .cell) o ≡ x → drawn i used s (v .cell) (draw (words ++ more) used sum) ≡ x
+      go none z q = absurd (subst Unpaused (sym q) n refl)
+      go (some d) z q = ap (drawn i used s (v .cell)) (draw-longer words used sum d z more) ∙ q
 
   -- a turn that does not pause is the same with more words
   turn-longer : (x : Turn) → turn i words used s ≡ x → Unpaused x → turn i (words ++ more) used s ≡ x

@@ -1,19 +1,18 @@
 -- A run, step by step. Follows docs/RULES.md, "Run".
 -- Assumes nothing.
-use mathlib.Core.Bool.{Bool, true, false, not, cond, _&&_, _||_}
+use mathlib.Core.Bool.{Bool, cond}
 use mathlib.Core.List.{List, [], _∷_, _++_}
 use mathlib.Core.Option.{Option, none, some}
-use Prim.Native.Nat.{ℕ, zero, suc, _+_, _-_, _*_}
-use lib.Dec.{leb, ltb, eqb}
+use Prim.Native.Nat.{ℕ, zero, suc, _+_}
+use lib.Dec.{leb, eqb}
 use lib.Ieee.{Float, binary32, ofBits}
-use lib.ListN.{length, getD, take, drop, replicate}
+use lib.ListN.{length, getD, replicate}
 use Rattle.loops.specs.Tests.{every}
 use Rattle.words.specs.Words.{howMany}
 use Rattle.adjacency.specs.Tables.{Table}
 use Rattle.adjacency.specs.Weights.{wholeWeight, weightSum, mask}
 use Rattle.grid.specs.Grid.{Grid, cells}
 use Rattle.logarithms.specs.Entropy.{running, entropy}
-use Rattle.consistency.specs.Domains.{removed}
 use Rattle.consistency.specs.Worklist.{Removal, removal, State, forbids, propagated}
 use Rattle.consistency.specs.Start.{start, others}
 use Rattle.propagation.specs.Beside.{Beside, beside, lessened, kept, unmarked}
