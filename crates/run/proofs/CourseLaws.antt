@@ -20,7 +20,7 @@ use Rattle.consistency.proofs.DomainLaws.{pattern-below}
 use Rattle.consistency.proofs.RemovalLaws.{others-inside, spared-others}
 use Rattle.consistency.proofs.LessenedLaws.{possible-lessened, sub-lessened}
 use Rattle.consistency.proofs.Settled.{Settled}
-use Rattle.run.proofs.TurnLaws.{Over, contradicted, finished, stuck, paused, Chosen, counts-open, turn-over, turn-on, collapse-over, collapse-on}
+use Rattle.run.proofs.TurnLaws.{Chosen, counts-open, turn-over, turn-on, collapse-over, collapse-on}
 use Rattle.run.proofs.StateLaws.{Stands, reducedBy-settled, reached-stands}
 use Rattle.run.proofs.OpenLaws.{openCells, open-most, open-some, open-falls}
 
@@ -89,16 +89,9 @@ module _ (i : Given) (fs : List Forbid) (L : Lawful i fs) (words : List ℕ) whe
 
   -- ---- the run ends
 
-  -- a turn that ends the run uses no word
-  over-used : {used : ℕ} {s : State Beside} {e : Ended} → Over i words used s e → e .used ≡ used
-  over-used (contradicted h) = refl
-  over-used (finished h d) = refl
-  over-used (stuck h q d) = refl
-  over-used (paused h x q l) = refl
-
   final-over : (k used : ℕ) (s : State Beside) (e : Ended) → Reached i fs words k used s → turn i words used s ≡ Turn.over e → Final i fs words e
   final-over k used s e r q =
-      let u = over-used (turn-over i words used s q) in
+      let u = turn-over i words used s q .spent in
       record { choices = k; state = s; reached = rw u r; over = subst (λ (x : ℕ). turn i words x s ≡ Turn.over e) (sym u) q }
 
   final-from : (fuel k used : ℕ) (s : State Beside) → Reached i fs words k used s → cells (i .grid) < fuel + k → Final i fs words (collapse i words fuel used s)

@@ -4,7 +4,7 @@ use mathlib.Core.List.{List}
 use mathlib.Core.Logic.{_↔_}
 use mathlib.Core.Option.{none, some}
 use mathlib.Core.Path.{_≡_, refl, sym, ap, _∙_, subst}
-use Prim.Native.Nat.{ℕ, _^_, _≤_, _<_}
+use Prim.Native.Nat.{ℕ, zero, suc, _^_, _≤_, _<_}
 use native.Mathlib.Decide.{ℕ-discrete}
 use native.Mathlib.Omega.{arith}
 use lib.Dec.{eqb}
@@ -28,7 +28,7 @@ use Rattle.words.proofs.CountLaws.{many-width, many-zero}
 use Rattle.consistency.proofs.DomainLaws.{at-emptied, settled-empty, settled-whole, fit-settled}
 use Rattle.consistency.proofs.ConsistentLaws.{one-each}
 use Rattle.consistency.proofs.SettledLaws.{settled-greatest}
-use Rattle.run.proofs.TurnLaws.{Over, contradicted, finished, stuck, paused, sight-counts, sight-none, turn-over}
+use Rattle.run.proofs.TurnLaws.{Says, Over, sight-counts, sight-none, turn-over}
 use Rattle.run.proofs.StateLaws.{Stands, reached-stands}
 use Rattle.run.proofs.CourseLaws.{reached-counted}
 
@@ -54,23 +54,6 @@ several P D c F e h k =
       | no z ↦ omega arith
     ]
 
--- ---- what is written of a state
-
-module _ (i : Given) (words : List ℕ) (used : ℕ) (s : State Beside) where
-  -- a cell of it is empty exactly where the end is Contradiction
-  over-empty : {e : Ended} → Over i words used s e → (e .end ≡ 3) ↔ (s .empty ≡ true)
-  over-empty (contradicted h) = (λ _. h, λ _. refl)
-  over-empty (finished h d) = (λ z. absurd (omega arith), λ z. absurd (true≢false (sym z ∙ h)))
-  over-empty (stuck h q d) = (λ z. absurd (omega arith), λ z. absurd (true≢false (sym z ∙ h)))
-  over-empty (paused h x q l) = (λ z. absurd (omega arith), λ z. absurd (true≢false (sym z ∙ h)))
-
-  -- its domains, or zeros
-  over-written : {e : Ended} → s .empty ≡ emptied (s .domains) → Over i words used s e → e .domains ≡ settledAs (s .domains)
-  over-written told (contradicted h) = sym (settled-empty (s .domains) (sym told ∙ h))
-  over-written told (finished h d) = sym (settled-whole (s .domains) (sym told ∙ h))
-  over-written told (stuck h q d) = sym (settled-whole (s .domains) (sym told ∙ h))
-  over-written told (paused h x q l) = sym (settled-whole (s .domains) (sym told ∙ h))
-
 module _ (i : Given) (fs : List Forbid) (L : Lawful i fs) (words : List ℕ) {e : Ended} (F : Final i fs words e) where
   -- the last state is what propagation leaves of full domains less all that was asked to go
   pub last-stands : Stands i (F .state)
@@ -79,18 +62,30 @@ module _ (i : Given) (fs : List Forbid) (L : Lawful i fs) (words : List ℕ) {e 
   ending : Over i words (e .used) (F .state) e
   ending = turn-over i words (e .used) (F .state) (F .over)
 
+  -- what the end's number says, where it is known
+  said : {n : ℕ} → e .end ≡ n → Says i words (e .used) (F .state) n
+  said z = subst (Says i words (e .used) (F .state)) z (ending .says)
+
   -- ---- every end
 
   -- a cell of the last state is empty exactly where the end is Contradiction
   pub end-empty : (e .end ≡ 3) ↔ (F .state .empty ≡ true)
-  end-empty = over-empty i words (e .used) (F .state) ending
+  end-empty = (said, λ h. go (e .end) h (ending .says))
+    where
+      go : (n : ℕ) → F .state .empty ≡ true → Says i words (e .used) (F .state) n → n ≡ 3
+      go zero h k = absurd (true≢false (sym h ∙ k .0))
+      go (suc zero) h k = absurd (true≢false (sym h ∙ k .0))
+      go (suc (suc zero)) h k = absurd (true≢false (sym h ∙ k .0))
+      go (suc (suc (suc zero))) h k = refl
+      go (suc (suc (suc (suc n)))) h k = absurd k
 
   told : F .state .empty ≡ emptied (F .state .domains)
   told = last-stands .settled .safe .told
 
   -- what is written is the last state, or zeros
   pub end-written : e .domains ≡ settledAs (F .state .domains)
-  end-written = over-written i words (e .used) (F .state) told ending
+  unfolding settledAs
+  end-written = rw (← told) (ending .written)
 
   -- it has a word of P bits for each cell
   pub end-fit : Fit (i .table .count) (cells (i .grid)) (e .domains)
@@ -127,14 +122,8 @@ module _ (i : Given) (fs : List Forbid) (L : Lawful i fs) (words : List ℕ) {e 
       × ((c p d n q : ℕ) → d < 4 → neighbour (i .grid) c d ≡ some n → possible (e .domains) c p ≡ 1 → possible (e .domains) n q ≡ 1 → inList (i .table) p d q)
   decided-means z = (one, one-each (i .table) (i .grid) (e .domains) end-fit (end-greatest (λ y. omega arith) .consistent) one)
     where
-      go : {e′ : Ended} → Over i words (e .used) (F .state) e′ → e′ .end ≡ 0 → decided (e′ .domains) ≡ true
-      go (contradicted h) z = absurd (omega arith)
-      go (finished h d) z = d
-      go (stuck h q d) z = absurd (omega arith)
-      go (paused h x q l) z = absurd (omega arith)
-
       one : (c : ℕ) → c < cells (i .grid) → howMany (i .table .count) (getD (e .domains) c 0) ≡ 1
-      one c h = many-end c ∙ decided-each (e .domains) (go ending z) c (omega (arith, end-fit .sized))
+      one c h = many-end c ∙ decided-each (e .domains) (ap decided (sym (end-domains (λ y. omega arith))) ∙ said z .1) c (omega (arith, end-fit .sized))
 
   -- ---- Undecided
 
@@ -143,19 +132,12 @@ module _ (i : Given) (fs : List Forbid) (L : Lawful i fs) (words : List ℕ) {e 
       × ((c : ℕ) × (c < cells (i .grid)) × (2 ≤ howMany (i .table .count) (getD (e .domains) c 0)))
   unfolding sighted notesOf
   undecided-means z =
-      let (unseen, undecided) = go ending z in
-      let (c, h, k) = undecided-some (e .domains) undecided in
+      let (whole, unseen, undecided) = said z in
       let same = end-domains (λ y. omega arith) in
-      let whole = ap emptied (sym same) ∙ sym told ∙ end-whole (λ y. omega arith) in (
+      let (c, h, k) = undecided-some (e .domains) (ap decided (sym same) ∙ undecided) in (
         λ m l. sight-none (notesOf i (F .state)) unseen m (omega (arith, last-stands .settled .safe .fit .sized)),
-        (c, omega (arith, end-fit .sized), several (i .table .count) (e .domains) c end-fit whole h (λ y. k (sym (many-end c) ∙ y))),
+        (c, omega (arith, end-fit .sized), several (i .table .count) (e .domains) c end-fit (ap emptied (sym same) ∙ sym told ∙ whole) h (λ y. k (sym (many-end c) ∙ y))),
       )
-    where
-      go : {e′ : Ended} → Over i words (e .used) (F .state) e′ → e′ .end ≡ 1 → (sighted i (F .state) ≡ none) × (decided (e′ .domains) ≡ false)
-      go (contradicted h) z = absurd (omega arith)
-      go (finished h d) z = absurd (omega arith)
-      go (stuck h q d) z = (q, d)
-      go (paused h x q l) z = absurd (omega arith)
 
   -- ---- Paused
 
@@ -163,22 +145,16 @@ module _ (i : Given) (fs : List Forbid) (L : Lawful i fs) (words : List ℕ) {e 
   pub paused-means : e .end ≡ 2 → ((c : ℕ) × (c < cells (i .grid)) × (countsAt (notesOf i (F .state)) c ≡ true)) × (e .used ≡ length words)
   unfolding sighted notesOf
   paused-means z =
-      let (x, q, l) = go ending z in
+      let (whole, (x, q), l) = said z in
       let (h, k) = sight-counts (notesOf i (F .state)) x q in
       ((x .cell, omega (arith, last-stands .settled .safe .fit .sized), k), omega (arith, reached-counted i fs L words (F .reached) .spent))
-    where
-      go : {e′ : Ended} → Over i words (e .used) (F .state) e′ → e′ .end ≡ 2 → (x : Sight) × (sighted i (F .state) ≡ some x) × (length words ≤ e .used)
-      go (contradicted h) z = absurd (omega arith)
-      go (finished h d) z = absurd (omega arith)
-      go (stuck h q d) z = absurd (omega arith)
-      go (paused h x q l) z = (x, q, l)
 
   -- ---- Contradiction
 
   -- the greatest consistent subset of full domains less all that was asked to go has an empty cell, and every domain is written as zero
   pub contradiction-means : e .end ≡ 3 → (emptied (last-stands .settled .rest) ≡ true) × (e .domains ≡ replicate (cells (i .grid)) 0)
   contradiction-means z =
-      let h = end-empty .0 z in (
+      let h = said z in (
         sym (last-stands .settled .contradiction) ∙ h,
         end-written ∙ settled-empty (F .state .domains) (sym told ∙ h) ∙ ap (λ (n : ℕ). replicate n 0) (last-stands .settled .safe .fit .sized),
       )

@@ -4,7 +4,7 @@ use mathlib.Core.Bool.{Bool, true, false, cond}
 use mathlib.Core.List.{List}
 use mathlib.Core.Option.{Option, none, some, Option·some-injective, Option·none-ne-some}
 use mathlib.Core.Path.{_≡_, refl, sym, ap, subst}
-use Prim.Native.Nat.{ℕ, suc, _+_, _%_, _≤_, _<_}
+use Prim.Native.Nat.{ℕ, zero, suc, _+_, _%_, _≤_, _<_}
 use native.Mathlib.Nat.{mod-lt}
 use native.Mathlib.Numerals.{add-one}
 use lib.Dec.{ltb}
@@ -55,12 +55,19 @@ module _ (v : Notes) where
 -- ---- what a turn does
 
 module _ (i : Given) (words : List ℕ) (used : ℕ) (s : State Beside) where
-  -- the four ways to end
-  pub data Over : Ended → Type 0 where
-    contradicted : s .empty ≡ true → Over (ended 3 used (replicate (length (s .domains)) 0))
-    finished : s .empty ≡ false → decided (s .domains) ≡ true → Over (ended 0 used (s .domains))
-    stuck : s .empty ≡ false → sighted i s ≡ none → decided (s .domains) ≡ false → Over (ended 1 used (s .domains))
-    paused : s .empty ≡ false → (x : Sight) → sighted i s ≡ some x → length words ≤ used → Over (ended 2 used (s .domains))
+  -- what the number of an end says of the state: Decided (0), Undecided (1), Paused (2), Contradiction (3)
+  abbrev pub Says : ℕ → Type 0
+  Says zero = (s .empty ≡ false) × (decided (s .domains) ≡ true)
+  Says (suc zero) = (s .empty ≡ false) × (sighted i s ≡ none) × (decided (s .domains) ≡ false)
+  Says (suc (suc zero)) = (s .empty ≡ false) × ((x : Sight) × (sighted i s ≡ some x)) × (length words ≤ used)
+  Says (suc (suc (suc zero))) = s .empty ≡ true
+  Says (suc (suc (suc (suc n)))) = ⊥
+
+  -- the run ends there: no more words are used, and the state's domains are written, or zeros
+  pub record Over (e : Ended) : Type 0 where
+    pub says : Says (e .end)
+    pub spent : e .used ≡ used
+    pub written : e .domains ≡ cond (s .empty) (replicate (length (s .domains)) 0) (s .domains)
 
   -- a choice, after which `more` words are used and the run is at s′
   pub record Chosen (more : ℕ) (s′ : State Beside) : Type 0 where
@@ -78,6 +85,12 @@ module _ (i : Given) (words : List ℕ) (used : ℕ) (s : State Beside) where
   pub data Turned : Turn → Type 0 where
     ends : {e : Ended} → Over e → Turned (Turn.over e)
     goes : {more : ℕ} {s′ : State Beside} → Chosen more s′ → Turned (Turn.on more s′)
+
+  over-whole : (n : ℕ) → s .empty ≡ false → Says n → Over (ended n used (s .domains))
+  over-whole n e h = record { says = h; spent = refl; written = rw e }
+
+  over-empty : s .empty ≡ true → Over (ended 3 used (replicate (length (s .domains)) 0))
+  over-empty e = record { says = e; spent = refl; written = rw e }
 
   -- what a draw comes to, at the cell that is sighted
   module _ (x : Sight) (e : s .empty ≡ false) (q : sighted i s ≡ some x) where
@@ -105,7 +118,7 @@ module _ (i : Given) (words : List ℕ) (used : ℕ) (s : State Beside) where
 
     turned-draw : (o : Option Draw) → draw words used (weightSum (i .weights) word) ≡ o → Turned (drawn i used s (x .cell) o)
     unfolding drawn
-    turned-draw none z = ends (paused e x q (draw-none words used (weightSum (i .weights) word) z))
+    turned-draw none z = ends (over-whole 2 e (e, (x, q), draw-none words used (weightSum (i .weights) word) z))
     turned-draw (some d) z = goes (chosen-by d z)
 
   over-still : s .empty ≡ false → sighted i s ≡ none → Over (still used s)
@@ -113,8 +126,8 @@ module _ (i : Given) (words : List ℕ) (used : ℕ) (s : State Beside) where
   over-still e q = go (decided (s .domains)) refl
     where
       go : (b : Bool) → decided (s .domains) ≡ b → Over (ended (cond b 0 1) used (s .domains))
-      go true d = finished e d
-      go false d = stuck e q d
+      go true d = over-whole 0 e (e, d)
+      go false d = over-whole 1 e (e, q, d)
 
   turned-sight : (o : Option Sight) → s .empty ≡ false → sighted i s ≡ o → Turned (seen i words used s o)
   unfolding seen
@@ -127,7 +140,7 @@ module _ (i : Given) (words : List ℕ) (used : ℕ) (s : State Beside) where
   turned = go (s .empty) refl
     where
       go : (b : Bool) → s .empty ≡ b → Turned (cond b (Turn.over (ended 3 used (replicate (length (s .domains)) 0))) (seen i words used s (sighted i s)))
-      go true e = ends (contradicted e)
+      go true e = ends (over-empty e)
       go false e = turned-sight (sighted i s) e refl
 
   -- a turn that ends the run

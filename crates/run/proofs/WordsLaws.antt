@@ -21,7 +21,7 @@ use Rattle.run.specs.Run.{Given, sighted, notesOf, Ended, ended, Turn, d
 use Rattle.run.specs.Course.{Lawful, Reached, forbade, chose, Final}
 use Rattle.consistency.proofs.DomainLaws.{possible-none}
 use Rattle.run.proofs.DrawLaws.{draw-longer}
-use Rattle.run.proofs.TurnLaws.{Over, contradicted, finished, stuck, paused, counts-open, turn-over, turn-on}
+use Rattle.run.proofs.TurnLaws.{Over, counts-open, turn-over, turn-on}
 use Rattle.run.proofs.StateLaws.{reached-stands}
 use Rattle.run.proofs.OpenLaws.{open-some}
 use Rattle.run.proofs.CourseLaws.{chosen-sub, reached-counted, run-final, reached-run, final-collapse}
@@ -78,11 +78,12 @@ module _ (i : Given) (fs : List Forbid) (words more : List ℕ) where
 -- ---- no pattern is restored
 
 module _ (i : Given) (fs : List Forbid) (L : Lawful i fs) (words : List ℕ) (D : List ℕ) where
-  over-below : {used : ℕ} {s : State Beside} {e : Ended} → Over i words used s e → (s .empty ≡ false → Sub (s .domains) D) → Sub (e .domains) D
-  over-below {s = s} (contradicted h) below = λ c p k. absurd (omega (arith, possible-none (length (s .domains)) c p))
-  over-below (finished h d) below = below h
-  over-below (stuck h q d) below = below h
-  over-below (paused h x q l) below = below h
+  over-below : (used : ℕ) (s : State Beside) {e : Ended} → Over i words used s e → (s .empty ≡ false → Sub (s .domains) D) → Sub (e .domains) D
+  over-below used s o below = rw (o .written) (go (s .empty) refl)
+    where
+      go : (b : Bool) → s .empty ≡ b → Sub (cond b (replicate (length (s .domains)) 0) (s .domains)) D
+      go true h = λ c p k. absurd (omega (arith, possible-none (length (s .domains)) c p))
+      go false h = below h
 
   -- from a state that is reached the run ends with a subset
   collapse-below : (fuel k used : ℕ) (s : State Beside) → Reached i fs words k used s → cells (i .grid) < fuel + k → (s .empty ≡ false → Sub (s .domains) D)
@@ -99,7 +100,7 @@ module _ (i : Given) (fs : List Forbid) (L : Lawful i fs) (words : List ℕ) (D 
 
       go : (x : Turn) → turn i words used s ≡ x → ((m : ℕ) (s′ : State Beside) → turn i words used s ≡ Turn.on m s′ → Sub (collapse i words fuel m s′ .domains) D)
           → Sub ((elim x as (λ _. Ended) [ Turn.over e ↦ e | Turn.on m s′ ↦ collapse i words fuel m s′ ]) .domains) D
-      go (Turn.over e) q f = over-below (turn-over i words used s q) below
+      go (Turn.over e) q f = over-below used s (turn-over i words used s q) below
       go (Turn.on m s′) q f = f m s′ q
 
 -- ---- the theorems
