@@ -136,16 +136,16 @@ reached-none : {i : Given} {fs : List Forbid} {words : List ℕ} {used : ℕ} {s
 reached-none forbade = refl
 
 module _ (i : Given) (fs : List Forbid) (L : Lawful i fs) where
-  F : Final i fs [] (runOf i fs [])
-  F = run-final i fs L []
+  final : Final i fs [] (runOf i fs [])
+  final = run-final i fs L []
 
   -- it ends where the forbids end
-  wordless-last : F .state ≡ laidAll i fs (begun i)
-  wordless-last = reached-none (subst (λ (k : ℕ). Reached i fs [] k (runOf i fs [] .used) (F .state)) (let (each, _, none) = used-choices i fs L [] F in omega arith) (F .reached))
+  wordless-last : final .state ≡ laidAll i fs (begun i)
+  wordless-last = reached-none (subst (λ (k : ℕ). Reached i fs [] k (runOf i fs [] .used) (final .state)) (let (each, _, none) = used-choices i fs L [] final in omega arith) (final .reached))
 
   -- and writes what they leave
   wordless-written : (runOf i fs [] .domains ≡ settledAs (laidAll i fs (begun i) .domains)) × ((runOf i fs [] .end ≡ 3) ↔ (laidAll i fs (begun i) .empty ≡ true))
-  wordless-written = rw (← wordless-last) (end-written i fs L [] F, end-empty i fs L [] F)
+  wordless-written = rw (← wordless-last) (end-written i fs L [] final, end-empty i fs L [] final)
 
   -- that is the greatest consistent subset of full domains less everything that they ask to go, or a Contradiction exactly where that has an empty cell
   pub wordless-greatest : (G : List ℕ) → Greatest (i .table) (i .grid) (fullLess i (wanted (i .table .count) fs)) G

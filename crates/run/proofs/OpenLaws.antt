@@ -9,16 +9,14 @@ use Rattle.loops.specs.Sums.{sumTo}
 use Rattle.words.specs.Words.{bit, without, howMany}
 use Rattle.consistency.specs.Domains.{possible, Sub}
 use Rattle.loops.proofs.SumLaws.{sum-le, sum-less, sum-mono, sum-most, sum-zero}
-use Rattle.words.proofs.BitLaws.{bit-lt, bit-not}
-use Rattle.words.proofs.ChangeLaws.{bit-without, bit-without-other}
-use Rattle.words.proofs.CountLaws.{many-without}
+use Rattle.words.proofs.CountLaws.{many-sub, many-one}
 use Rattle.consistency.proofs.DomainLaws.{sub-le}
 
 -- 1 for an open cell and 0 for any other
 abbrev pub isOpen : ℕ → ℕ
 isOpen w = min 1 (howMany 64 w - 1)
 
--- how many of n cells are openCells
+-- how many of n cells are open
 unfoldable pub openCells : ℕ → List ℕ → ℕ
 unfolding sumTo
 openCells n D = sumTo n (λ c. isOpen (getD D c 0))
@@ -30,21 +28,6 @@ open-most n D = omega (arith, sum-most n 1 (λ c. isOpen (getD D c 0)) (λ c h. 
 pub open-some : (n : ℕ) (D : List ℕ) (c : ℕ) → c < n → 2 ≤ howMany 64 (getD D c 0) → 0 < openCells n D
 unfolding openCells
 open-some n D c h k = omega (arith, sum-le n (λ c. isOpen (getD D c 0)) c h)
-
--- a subset of a word has no more patterns
-many-sub : (k v w : ℕ) → ((p : ℕ) → bit v p ≤ bit w p) → howMany k v ≤ howMany k w
-unfolding howMany
-many-sub k v w h = sum-mono k (bit v) (bit w) (λ p l. h p)
-
--- a word that has no pattern but p has one at most
-many-one : (k w p : ℕ) → p < k → ((q : ℕ) → bit w q ≡ 1 → q ≡ p) → howMany k w ≤ 1
-unfolding howMany
-many-one k w p l h =
-    omega (arith, many-without k w p l, bit-lt w p, sum-zero k (bit (without w p)) (λ q j. none q (ℕ-discrete q p)))
-  where
-    none : (q : ℕ) → Dec (q ≡ p) → bit (without w p) q ≡ 0
-    none q (yes e) = rw e (bit-without w p)
-    none q (no n) = bit-without-other w p q n ∙ bit-not w q (λ e. n (h q e))
 
 -- fewer are open in a subset where an open cell has no pattern but one
 pub open-falls : (n : ℕ) (D E : List ℕ) (c p : ℕ) → c < n → p < 64 → Sub E D → 2 ≤ howMany 64 (getD D c 0)
