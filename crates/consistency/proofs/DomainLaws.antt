@@ -149,10 +149,13 @@ pub settled-whole : (D : List ℕ) → emptied D ≡ false → settledAs D ≡ D
 unfolding settledAs
 settled-whole D e = rw e
 
+none-at : (n c : ℕ) → getD {A = ℕ} (replicate n 0) c 0 ≡ 0
+none-at zero c = refl
+none-at (suc n) zero = refl
+none-at (suc n) (suc c) = none-at n c
+
 pub possible-none : (n c p : ℕ) → possible (replicate n 0) c p ≡ 0
-possible-none zero c p = bit-none p
-possible-none (suc n) zero p = bit-none p
-possible-none (suc n) (suc c) p = possible-none n c p
+possible-none n c p = ap (λ (w : ℕ). bit w p) (none-at n c) ∙ bit-none p
 
 -- it is a subset, and grows with the domains
 pub settled-below : (D : List ℕ) → Sub (settledAs D) D
@@ -168,3 +171,10 @@ sub-settled {P} {n} {D} {E} F G h c p k = go (emptied E) refl
     go : (b : Bool) → emptied E ≡ b → possible (settledAs E) c p ≡ 1
     go true e = absurd (omega (arith, possible-none (length D) c p, rw (settled-empty D (emptied-sub F G h e)) at k))
     go false e = rw (settled-whole E e) (h c p (settled-below D c p k))
+
+pub fit-settled : {P n : ℕ} {D : List ℕ} → Fit P n D → Fit P n (settledAs D)
+fit-settled {P} {n} {D} F = go (emptied D) refl
+  where
+    go : (b : Bool) → emptied D ≡ b → Fit P n (settledAs D)
+    go true e = rw (settled-empty D e) (record { sized = length-replicate (length D) 0 ∙ F .sized; words = λ c. rw (none-at (length D) c) (pow-pos P) })
+    go false e = rw (settled-whole D e) F

@@ -48,25 +48,28 @@ module _ (t : Table) (g : Grid) (A : Accepted t) {X : Type 0} where
       a : Greatest t g (lessened us D) G
       a = exists .1
 
+  -- more removals after a propagation, once they are propagated too, settle what all of them leave
+  pub settled-after : (us : List Removal) (D : List ℕ) (s r : State X) → Settled t g D s → s .empty ≡ false → Settled t g (lessened us (s .domains)) r
+      → Settled t g (lessened us D) r
+  settled-after us D s r S e R =
+      record {
+        rest = R .rest;
+        greatest = greatest-lessened t g us D (s .domains) (R .rest) (settled-greatest t g D s S e) (R .greatest);
+        contradiction = R .contradiction;
+        left = R .left;
+        ended = R .ended;
+        ready = R .ready;
+        safe = R .safe;
+      }
+
   module _ (asked following : Removal → List ℕ → X → X) where
-    -- more removals, propagated, settle what all of them leave
+    -- so it is for the work list
     pub settled-more : (us : List Removal) (D : List ℕ) (s : State X) → Inside (t .count) (cells g) us → Settled t g D s → s .empty ≡ false
         → Settled t g (lessened us D) (propagated t g following (forbids (t .count) asked us s))
     settled-more us D s i S e =
-        record {
-          rest = more .rest;
-          greatest =
-              greatest-lessened t g us D (s .domains) (more .rest) (settled-greatest t g D s S e)
-              (subst (λ (E : List ℕ). Greatest t g E (more .rest)) (forbids-lessened (t .count) asked us s) (more .greatest));
-          contradiction = more .contradiction;
-          left = more .left;
-          ended = more .ended;
-          ready = more .ready;
-          safe = more .safe;
-        }
-      where
-        more : Settled t g ((forbids (t .count) asked us s) .domains) (propagated t g following (forbids (t .count) asked us s))
-        more = settled t g A following (forbids (t .count) asked us s) (forbids-ready t g A asked us s i (S .ready e))
+        settled-after us D s _ S e
+        (subst (λ (E : List ℕ). Settled t g E (propagated t g following (forbids (t .count) asked us s))) (forbids-lessened (t .count) asked us s)
+        (settled t g A following (forbids (t .count) asked us s) (forbids-ready t g A asked us s i (S .ready e))))
 
     -- removals in parts settle what all of them leave
     pub parts-settled : (parts : List (List Removal)) (D : List ℕ) (s : State X) → Inside (t .count) (cells g) (flatten parts)

@@ -68,6 +68,16 @@ unfolding sumTo
 sum-most zero b f h = zero-le
 sum-most (suc n) b f h = omega (arith, sum-most n b f (λ i k. h i (omega arith)), h n (le-refl (suc n)))
 
+-- a family that is below another, and strictly so somewhere, has a lesser sum
+pub sum-less : (n : ℕ) (f g : ℕ → ℕ) (p : ℕ) → p < n → ((i : ℕ) → i < n → f i ≤ g i) → f p < g p → sumTo n f < sumTo n g
+unfolding sumTo
+sum-less zero f g p k h l = absurd (omega arith)
+sum-less (suc n) f g p k h l =
+    elim (ℕ-discrete p n) [
+      | yes e ↦ omega (arith, ap f e, ap g e, sum-mono n f g (λ i j. h i (omega arith)))
+      | no e ↦ omega (arith, h n (le-refl (suc n)), sum-less n f g p (omega arith) (λ i j. h i (omega arith)) l)
+    ]
+
 pub sum-pos : (n : ℕ) (f : ℕ → ℕ) → 0 < sumTo n f → (i : ℕ) × (i < n) × (0 < f i)
 unfolding sumTo
 sum-pos zero f h = absurd (omega arith)

@@ -100,6 +100,17 @@ every-at f [] t k h = absurd (not-suc-le-zero h)
 every-at f (x ∷ l) t zero h = and-l (f x) (every f l) t
 every-at f (x ∷ l) t (suc k) h = every-at f l (and-r (f x) (every f l) t) k (le-of-suc-le-suc h)
 
+-- where the test fails, it fails at some entry
+pub every-fails : (f : ℕ → Bool) (l : List ℕ) → every f l ≡ false → (k : ℕ) × (k < length l) × (f (getD l k 0) ≡ false)
+unfolding every
+every-fails f [] e = absurd (false≢true (sym e))
+every-fails f (x ∷ l) e = go (f x) refl (every-fails f l)
+  where
+    go : (b : Bool) → f x ≡ b → (every f l ≡ false → (k : ℕ) × (k < length l) × (f (getD l k 0) ≡ false))
+        → (k : ℕ) × (k < length (x ∷ l)) × (f (getD (x ∷ l) k 0) ≡ false)
+    go true q rest = let (k, h, z) = rest (rw q at e) in (suc k, omega arith, z)
+    go false q rest = (0, omega arith, q)
+
 pub every-elem : (f : ℕ → Bool) (l : List ℕ) → T (every f l) → (x : ℕ) → T (elem x l) → T (f x)
 unfolding every elem
 every-elem f [] t x h = absurd h

@@ -18,11 +18,12 @@ use Rattle.refusals.specs.Refusals.{number, numberOf, Test, firstOf, ref
 byNumber : List Refusal
 byNumber = BadSize ∷ BadWrap ∷ BadCount ∷ BadWeights ∷ BadLength ∷ BadList ∷ Disagree ∷ BadCell ∷ BadPattern ∷ BadSheet ∷ BadDirection ∷ []
 
-named : ℕ → Refusal
+-- the refusal that a number names
+pub named : ℕ → Refusal
 unfolding byNumber
 named n = getD byNumber (n - 1) BadDirection
 
-named-number : (r : Refusal) → named (number r) ≡ r
+pub named-number : (r : Refusal) → named (number r) ≡ r
 unfolding named number
 named-number BadSize = refl
 named-number BadWrap = refl

@@ -75,3 +75,18 @@ decided-one k w p q hp hq e a b =
       | yes z ↦ z
       | no n ↦ absurd (omega (arith, many-without k w p hp, sum-le k (bit (without w p)) q hq, bit-without-other w p q n))
     ]
+
+-- a subset of a word has no more patterns
+pub many-sub : (k v w : ℕ) → ((p : ℕ) → bit v p ≤ bit w p) → howMany k v ≤ howMany k w
+unfolding howMany
+many-sub k v w h = sum-mono k (bit v) (bit w) (λ p l. h p)
+
+-- a word that has no pattern but p has one at most
+pub many-one : (k w p : ℕ) → p < k → ((q : ℕ) → bit w q ≡ 1 → q ≡ p) → howMany k w ≤ 1
+unfolding howMany
+many-one k w p l h =
+    omega (arith, many-without k w p l, bit-lt w p, sum-zero k (bit (without w p)) (λ q j. none q (ℕ-discrete q p)))
+  where
+    none : (q : ℕ) → Dec (q ≡ p) → bit (without w p) q ≡ 0
+    none q (yes e) = rw e (bit-without w p)
+    none q (no n) = bit-without-other w p q n ∙ bit-not w q (λ e. n (h q e))

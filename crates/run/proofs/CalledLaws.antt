@@ -1,0 +1,121 @@
+-- A run as it is called: what the refusals leave, that a refusal changes nothing, and that no second outcome fits.
+-- Follows docs/RULES.md, "Run" and "Refusals". Assumes nothing.
+use mathlib.Core.Bool.{false, not, _||_}
+use mathlib.Core.List.{List, [], _∷_}
+use mathlib.Core.Path.{_≡_, refl, sym, ap, _∙_}
+use Prim.Native.Nat.{ℕ, suc, _*_, _≤_}
+use lib.Dec.{ltb, eqb}
+use lib.ListN.{length, getD}
+use borrow.Author.Tests.{eqb-true, ltb-false, leb-false, not-false}
+use Rattle.refusals.specs.Refusals.{firstOf, Asked, refused, answer}
+use Rattle.adjacency.specs.Tables.{Table}
+use Rattle.adjacency.specs.Checks.{badWeights, badOffsets}
+use Rattle.adjacency.specs.Lookup.{badPattern}
+use Rattle.grid.specs.Grid.{Grid, cells, Sized}
+use Rattle.run.specs.declared.Forbid.{Forbid}
+use Rattle.run.specs.declared.Answer.{Answer}
+use Rattle.run.specs.declared.Answer.the-variants.{Decided, Undecided, Paused, Contradiction, Refused}
+use Rattle.run.specs.Run.{Given, runOf}
+use Rattle.run.specs.Course.{Placed, Lawful}
+use Rattle.run.specs.Called.{Memory, badMemory, badLengths, forbidTests, runTests, End, answerTold, Outcome, outcome, finished, outcomeAt, called}
+use Rattle.loops.proofs.TestLaws.{neither}
+use Rattle.refusals.proofs.RefusalLaws.{named, named-number, Passed, first-passed}
+use Rattle.adjacency.proofs.WeightLaws.{weighed}
+use Rattle.adjacency.proofs.AcceptedLaws.{accepted-by}
+use Rattle.grid.proofs.GridLaws.{sized-of, inside-of}
+
+-- ---- what the refusals leave
+
+-- every lent slice that is written has its length
+pub record Roomy (P n : ℕ) (m : Memory) : Type 0 where
+  pub domains : length (m .domains) ≡ n
+  pub counts : length (m .counts) ≡ n * P * 4
+  pub pending : length (m .pending) ≡ n * P
+  pub floats : length (m .floats) ≡ 2 * n
+  pub marks : length (m .marks) ≡ 2 * n
+
+-- the table, the grid and the forbids are lawful, and every lent slice has its length
+pub record Granted (i : Given) (fs : List Forbid) (m : Memory) : Type 0 where
+  pub lawful : Lawful i fs
+  pub sized : Sized (i .grid)
+  pub few : length fs ≤ 4096
+  pub noise : length (i .noise) ≡ cells (i .grid)
+  pub memory : Roomy (i .table .count) (cells (i .grid)) m
+
+long : (m n : ℕ) → not (eqb m n) ≡ false → m ≡ n
+long m n e = eqb-true m n (not-false _ e)
+
+granted-memory : (P n : ℕ) (m : Memory) → badMemory P n m ≡ false → Roomy P n m
+unfolding badMemory
+granted-memory P n m e =
+    let domains = not (eqb (length (m .domains)) n) in
+    let counts = not (eqb (length (m .counts)) (n * P * 4)) in
+    let pending = not (eqb (length (m .pending)) (n * P)) in
+    let floats = not (eqb (length (m .floats)) (2 * n)) in
+    let (d, m₅) = neither (domains || counts || pending || floats) (not (eqb (length (m .marks)) (2 * n))) e in
+    let (c, m₄) = neither (domains || counts || pending) floats d in
+    let (b, m₃) = neither (domains || counts) pending c in
+    let (m₁, m₂) = neither domains counts b in
+    record { domains = long _ _ m₁; counts = long _ _ m₂; pending = long _ _ m₃; floats = long _ _ m₄; marks = long _ _ m₅ }
+
+passed-placed : (t : Table) (g : Grid) (fs : List Forbid) → Passed (forbidTests t g fs) → Placed (t .count) (cells g) fs
+unfolding forbidTests badPattern
+passed-placed t g [] h = tt
+passed-placed t g (f ∷ fs) h = (inside-of g (f .cell) (h .0), leb-false (t .count) (f .pattern) (h .1 .0), passed-placed t g fs (h .1 .1))
+
+pub called-granted : (i : Given) (fs : List Forbid) (m : Memory) → firstOf (runTests i fs m) ≡ 0 → Granted i fs m
+unfolding runTests badLengths badMemory
+called-granted i fs m e =
+    let (count, (size, (wrap, (lengths, (weight, (list, (agreement, placed))))))) = first-passed (runTests i fs m) e in
+    let n = cells (i .grid) in
+    let P = i .table .count in
+    let (rest, few) = neither (badWeights P (i .weights) || badOffsets P (i .table .offsets) || not (eqb (length (i .noise)) n) || badMemory P n m) (ltb 4096 (length fs)) lengths in
+    let (rest, room) = neither (badWeights P (i .weights) || badOffsets P (i .table .offsets) || not (eqb (length (i .noise)) n)) (badMemory P n m) rest in
+    let (rest, noise) = neither (badWeights P (i .weights) || badOffsets P (i .table .offsets)) (not (eqb (length (i .noise)) n)) rest in
+    let (weights, offsets) = neither (badWeights P (i .weights)) (badOffsets P (i .table .offsets)) rest in
+    record {
+      lawful =
+          record { accepted = accepted-by (i .table) count offsets list agreement; weighed = weighed P (i .weights) weights weight; placed = passed-placed (i .table) (i .grid) fs placed };
+      sized = sized-of (i .grid) size wrap;
+      few = ltb-false 4096 (length fs) few;
+      noise = long _ _ noise;
+      memory = granted-memory P n m room;
+    }
+
+-- ---- the outcome
+
+module _ (i : Given) (fs : List Forbid) (words : List ℕ) (m : Memory) where
+  -- where nothing is refused it is the run's
+  pub called-accepted : firstOf (runTests i fs m) ≡ 0 → called i fs words m ≡ finished (runOf i fs words) m
+  unfolding called outcomeAt
+  called-accepted e = rw e
+
+  -- a refusal changes nothing, and tells its number alone
+  pub refused-same : (n : ℕ) → firstOf (runTests i fs m) ≡ suc n → called i fs words m ≡ outcome (refused (suc n)) m
+  unfolding called outcomeAt
+  refused-same n e = rw e
+
+-- ---- no second outcome fits
+
+-- the answer that tells so
+answered : Asked End → Answer
+answered (answer e) = getD (Decided (e .used) ∷ Undecided (e .used) ∷ Paused (e .used) ∷ []) (e .end) (Contradiction (e .used))
+answered (refused n) = Refused (named n)
+
+answered-told : (a : Answer) → answered (answerTold a) ≡ a
+unfolding answered answerTold
+answered-told (Decided n) = refl
+answered-told (Undecided n) = refl
+answered-told (Paused n) = refl
+answered-told (Contradiction n) = refl
+answered-told (Refused r) = ap Refused (named-number r)
+
+-- an answer is told by its end and words, or its number
+pub answerTold-injective : (a b : Answer) → answerTold a ≡ answerTold b → a ≡ b
+answerTold-injective a b e = sym (answered-told a) ∙ ap answered e ∙ answered-told b
+
+-- two outcomes that meet the contract are the same
+pub run-unique : (i : Given) (fs : List Forbid) (words : List ℕ) (m : Memory) (a b : Answer) (m₁ m₂ : Memory)
+    → outcome (answerTold a) m₁ ≡ called i fs words m → outcome (answerTold b) m₂ ≡ called i fs words m → (a ≡ b) × (m₁ ≡ m₂)
+run-unique i fs words m a b m₁ m₂ p q =
+    (answerTold-injective a b (ap (λ (o : Outcome). o .told) (p ∙ sym q)), ap (λ (o : Outcome). o .memory) (p ∙ sym q))

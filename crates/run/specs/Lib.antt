@@ -1,0 +1,5 @@
+pub mod Observer
+pub mod Choice
+pub mod Run
+pub mod Course
+pub mod Called
