@@ -66,8 +66,7 @@ loop-again c =
     let (left, going) = head .loop .inv in
     let k = called .spread-in .kept .1 .1 .1 .1 .1 .1 .1 .1 .1 .1 .1 .1 .1 in (
       steps-turn _ _ (below test) (called .spread-in .ensures) left,
-      going-on going (called .spread-in .ensures) (ground-spreadIn ground _ hc hp (below test) (lent-safe (going .lent) _)) (k .0) (k .1 .0) (k .1 .1 .0)
-          (k .1 .1 .1 .0) (k .1 .1 .1 .1 .0),
+      going-on going (called .spread-in .ensures) (ground-spreadIn ground _ hc hp (below test) (lent-safe (going .lent) _)) k,
     )
 
 same-length : tie.Need-same-length Inv-loop μ-loop
