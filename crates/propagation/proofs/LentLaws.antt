@@ -165,16 +165,22 @@ pub record Going (P n : ℕ) (ws noise : List ℕ) (m₀ m : Memory) (pile : Pil
   pub floats : length (m .floats) ≡ length (m₀ .floats)
   pub marks : length (m .marks) ≡ length (m₀ .marks)
 
+-- each slice is as long as before, as a call says of the five that it was lent, with what it says of the rest
+abbrev pub Same : Memory → Memory → Type 0 → Type 0
+Same m m′ R =
+    (length (m′ .domains) ≡ length (m .domains)) × ((length (m′ .counts) ≡ length (m .counts)) × ((length (m′ .pending) ≡ length (m .pending))
+    × ((length (m′ .floats) ≡ length (m .floats)) × ((length (m′ .marks) ≡ length (m .marks)) × R))))
+
 module _ {P n : ℕ} {ws noise : List ℕ} where
   pub going-start : {m : Memory} {pile : Pile} → Lent P n (m .domains) (m .counts) (m .pending) pile → Room P n ws noise (m .floats) (m .marks)
       → Going P n ws noise m m pile
   going-start L R = record { lent = L; room = R; domains = refl; counts = refl; pending = refl; floats = refl; marks = refl }
 
   -- a step that is safe, and whose slices are as long as before
-  pub going-on : {m₀ m m′ : Memory} {pile r : Pile} {s : State Beside} → Going P n ws noise m₀ m pile → stateIn P m′ r ≡ s → Safe P n (n * P) s
-      → length (m′ .domains) ≡ length (m .domains) → length (m′ .counts) ≡ length (m .counts) → length (m′ .pending) ≡ length (m .pending)
-      → length (m′ .floats) ≡ length (m .floats) → length (m′ .marks) ≡ length (m .marks) → Going P n ws noise m₀ m′ r
-  going-on G e S domains counts pending floats marks =
+  pub going-on : {m₀ m m′ : Memory} {pile r : Pile} {s : State Beside} {R : Type 0} → Going P n ws noise m₀ m pile → stateIn P m′ r ≡ s → Safe P n (n * P) s
+      → Same m m′ R → Going P n ws noise m₀ m′ r
+  going-on G e S k =
+      let (domains, (counts, (pending, (floats, (marks, _))))) = k in
       record {
         lent = lent-after (G .lent) (subst (λ (z : State Beside). Safe P n (n * P) z) (sym e) S) pending;
         room = room-after (G .room) floats marks;

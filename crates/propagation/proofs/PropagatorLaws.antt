@@ -150,7 +150,7 @@ propagated-beside t g keep s e k = k ∙ ap (λ (y : _). propagated t g keep (st
 
 -- ---- the loop: while a removal is pending and no cell is empty
 
-abbrev unfinished : Pile → Bool
+abbrev pub unfinished : Pile → Bool
 unfinished pile = ltb 0 (pile .top) && not (pile .empty)
 
 pub unfinished-some : (pile : Pile) → unfinished pile ≡ true → 0 < pile .top

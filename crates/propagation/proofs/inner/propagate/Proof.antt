@@ -67,8 +67,7 @@ loop-again c =
     let (left, going) = head .loop .inv in
     let k = called .pop .kept .1 .1 .1 .1 .1 .1 .1 .1 .1 .1 in (
       propagated-turn ground _ (going .lent) _ (test .if1 .taken) (called .pop .ensures) ∙ left,
-      going-on going refl (turn-safe ground _ (going .lent) _ (test .if1 .taken) (called .pop .ensures)) (k .0) (k .1 .0) (k .1 .1 .0)
-          (k .1 .1 .1 .0) (k .1 .1 .1 .1 .0),
+      going-on going refl (turn-safe ground _ (going .lent) _ (test .if1 .taken) (called .pop .ensures)) k,
     )
 
 same-length : tie.Need-same-length Inv-loop μ-loop

@@ -25,7 +25,7 @@ add-counts-3 : tie.Need-add-counts-3
 add-counts-3 c = search needs
 
 slice-write-counts-4 : tie.Need-slice-write-counts-4
-slice-write-counts-4 c = search needs
+slice-write-counts-4 c = simp length-set (omega arith)
 
 same-length : tie.Need-same-length
 same-length c = search needs

@@ -73,8 +73,7 @@ loop-again c =
     let (left, going) = head .loop .inv in
     let k = called .decrement .kept .1 .1 .1 .1 .1 .1 .1 .1 in (
       each-turn _ _ (test .loop-test .taken) (wide .wide .ensures) (called .decrement .ensures) left,
-      going-on going (called .decrement .ensures) (safe-decrement _ _ _ _ _ _ _ _ hc hd (read wide) (lent-safe (going .lent) _)) (k .0) (k .1 .0) (k .1 .1 .0) (k .1 .1 .1 .0)
-          (k .1 .1 .1 .1 .0),
+      going-on going (called .decrement .ensures) (safe-decrement _ _ _ _ _ _ _ _ hc hd (read wide) (lent-safe (going .lent) _)) k,
     )
 
 same-length : tie.Need-same-length Inv-loop μ-loop

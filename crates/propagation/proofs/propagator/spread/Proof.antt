@@ -2,7 +2,7 @@
 -- done to those at entry; and the slices are as they must be. The measure is how many directions are left.
 -- Assumes nothing.
 use mathlib.Core.Path.{_≡_, refl, sym, _∙_}
-use Prim.Native.Nat.{_-_}
+use Prim.Native.Nat.{_-_, _<_}
 use native.Mathlib.Omega.{arith}
 use Rattle.loops.specs.Loops.{steps}
 use Rattle.adjacency.specs.Tables.{table}
@@ -30,6 +30,10 @@ abbrev μ-loop : tie.MeasureT-loop
 abbrev start : tie.At-loop Inv-loop μ-loop → tie.Start Inv-loop μ-loop
 start l = l .before .before .before .before .before .before .before .before .before .before
 
+-- the direction of a turn
+below : (c : tie.In-loop Inv-loop μ-loop) → c .before .loop .d < 4
+below c = omega (arith, c .loop-test .taken)
+
 loop-holds : tie.Need-loop-holds Inv-loop μ-loop
 loop-holds c =
     let (lent, (_, (room, _))) = c .before .before .before .before .before .before .before .before .before .pre in
@@ -41,17 +45,17 @@ spread-in-requires c κs =
     let head = test .before in
     let (lent, ((ground, hc, hp), (room, masked))) = start head .pre in
     let going = head .loop .inv .1 in
-    (going .lent, ((ground, hc, hp, test .loop-test .taken), (going .room, masked)))
+    (going .lent, ((ground, hc, hp, below test), (going .room, masked)))
 
 add-d : tie.Need-add-d Inv-loop μ-loop
 add-d c =
     let test = c .before .before .before .before .before .before .before .before .before .before .before .before .before .before .before .before in
-    omega (arith, test .loop-test .taken)
+    omega (arith, below test)
 
 loop-less : tie.Need-loop-less Inv-loop μ-loop
 loop-less c =
     let test = c .before .before .before .before .before .before .before .before .before .before .before .before .before .before .before .before in
-    omega (arith, test .loop-test .taken)
+    omega (arith, below test)
 
 loop-again : tie.Need-loop-again Inv-loop μ-loop
 loop-again c =
@@ -61,9 +65,8 @@ loop-again c =
     let (lent, ((ground, hc, hp), room)) = start head .pre in
     let (left, going) = head .loop .inv in
     let k = called .spread-in .kept .1 .1 .1 .1 .1 .1 .1 .1 .1 .1 .1 .1 .1 in (
-      steps-turn _ _ (test .loop-test .taken) (called .spread-in .ensures) left,
-      going-on going (called .spread-in .ensures) (ground-spreadIn ground _ hc hp (test .loop-test .taken) (lent-safe (going .lent) _)) (k .0) (k .1 .0) (k .1 .1 .0)
-          (k .1 .1 .1 .0) (k .1 .1 .1 .1 .0),
+      steps-turn _ _ (below test) (called .spread-in .ensures) left,
+      going-on going (called .spread-in .ensures) (ground-spreadIn ground _ hc hp (below test) (lent-safe (going .lent) _)) k,
     )
 
 same-length : tie.Need-same-length Inv-loop μ-loop
