@@ -9,8 +9,8 @@ use lib.Arith.{lt-one}
 use lib.Count.{ones, ones-step}
 use Rattle.loops.specs.Sums.{sumTo}
 use Rattle.words.specs.Words.{bit, without, alone, full, howMany}
-use Rattle.loops.proofs.SumLaws.{sum-at, sum-zero, sum-le}
-use Rattle.words.proofs.BitLaws.{half-lt, bit-zero, bit-suc, bit-lt, bit-none, bit-full, bit-alone, bit-alone-other, word-ext}
+use Rattle.loops.proofs.SumLaws.{sum-at, sum-zero, sum-le, sum-mono}
+use Rattle.words.proofs.BitLaws.{half-lt, bit-zero, bit-suc, bit-lt, bit-none, bit-full, bit-alone, bit-alone-other, word-ext, bit-not}
 use Rattle.words.proofs.ChangeLaws.{bit-without, bit-without-other}
 
 -- ---- the count of ones is how many patterns are in the word
