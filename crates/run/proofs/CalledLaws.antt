@@ -27,7 +27,7 @@ use Rattle.grid.proofs.GridLaws.{sized-of, inside-of}
 -- ---- what the refusals leave
 
 -- every lent slice that is written has its length
-pub record Roomy (P n : ℕ) (m : Memory) : Type 0 where
+pub record Measured (P n : ℕ) (m : Memory) : Type 0 where
   pub domains : length (m .domains) ≡ n
   pub counts : length (m .counts) ≡ n * P * 4
   pub pending : length (m .pending) ≡ n * P
@@ -40,12 +40,13 @@ pub record Granted (i : Given) (fs : List Forbid) (m : Memory) : Type 0 where
   pub sized : Sized (i .grid)
   pub few : length fs ≤ 4096
   pub noise : length (i .noise) ≡ cells (i .grid)
-  pub memory : Roomy (i .table .count) (cells (i .grid)) m
+  pub memory : Measured (i .table .count) (cells (i .grid)) m
 
+-- two lengths that are tested to be the same
 long : (m n : ℕ) → not (eqb m n) ≡ false → m ≡ n
 long m n e = eqb-true m n (not-false _ e)
 
-granted-memory : (P n : ℕ) (m : Memory) → badMemory P n m ≡ false → Roomy P n m
+granted-memory : (P n : ℕ) (m : Memory) → badMemory P n m ≡ false → Measured P n m
 unfolding badMemory
 granted-memory P n m e =
     let domains = not (eqb (length (m .domains)) n) in
@@ -63,6 +64,7 @@ unfolding forbidTests badPattern
 passed-placed t g [] h = tt
 passed-placed t g (f ∷ fs) h = (inside-of g (f .cell) (h .0), leb-false (t .count) (f .pattern) (h .1 .0), passed-placed t g fs (h .1 .1))
 
+-- where nothing is refused, all of that is granted
 pub called-granted : (i : Given) (fs : List Forbid) (m : Memory) → firstOf (runTests i fs m) ≡ 0 → Granted i fs m
 unfolding runTests badLengths badMemory
 called-granted i fs m e =

@@ -12,12 +12,9 @@ use Rattle.refusals.specs.Refusals.{answer}
 use Rattle.run.specs.declared.Forbid.{Forbid}
 use Rattle.run.specs.Choice.{choiceOf}
 use Rattle.run.specs.Called.{Memory, memory, Outcome, called}
+use Rattle.consistency.proofs.Cases.{checker}
 
--- two patterns that allow only the other beside them
-abbrev pub checker : Table
-checker = table 2 (0 ∷ 1 ∷ 2 ∷ 3 ∷ 4 ∷ 5 ∷ 6 ∷ 7 ∷ 8 ∷ []) (1 ∷ 1 ∷ 1 ∷ 1 ∷ 0 ∷ 0 ∷ 0 ∷ 0 ∷ [])
-
--- three patterns that allow all
+-- three patterns that allow all beside them
 abbrev pub free : Table
 free =
     table 3 (0 ∷ 3 ∷ 6 ∷ 9 ∷ 12 ∷ 15 ∷ 18 ∷ 21 ∷ 24 ∷ 27 ∷ 30 ∷ 33 ∷ 36 ∷ [])
@@ -104,7 +101,7 @@ cases =
     ∷ case H 2 0 (7 ∷ [])
     ∷ case I 1 0 (3 ∷ [])  -- the note is stale
     ∷ case (call checker (0 ∷ 0 ∷ []) (grid 1 1 0) [] []) 1 0 (3 ∷ [])  -- J
-    ∷ case (K 1) 0 1 (1 ∷ [])
+    ∷ case (K 1) 0 1 (1 ∷ [])  -- the words 1, 2, 4, 5 take the patterns 0, 1, 1, 0
     ∷ case (K 2) 0 1 (2 ∷ [])
     ∷ case (K 4) 0 1 (2 ∷ [])
     ∷ case (K 5) 0 1 (1 ∷ [])

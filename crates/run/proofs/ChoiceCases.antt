@@ -10,7 +10,7 @@ use Rattle.run.specs.Choice.{choiceAsked as ask}
 -- each line asks with P, the weights, the domain and the word
 
 -- case K: weights 2, 3, both patterns, and the words 1, 2, 4, 5
-case-K :
+pub case-K :
     (ask 2 (2 ∷ 3 ∷ []) 3 1 ≡ answer (some 0))
     × (ask 2 (2 ∷ 3 ∷ []) 3 2 ≡ answer (some 1))
     × (ask 2 (2 ∷ 3 ∷ []) 3 4 ≡ answer (some 1))

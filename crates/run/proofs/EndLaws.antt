@@ -2,7 +2,7 @@
 use mathlib.Core.Bool.{Bool, true, false, true≢false}
 use mathlib.Core.List.{List}
 use mathlib.Core.Logic.{_↔_}
-use mathlib.Core.Option.{none, some}
+use mathlib.Core.Option.{some}
 use mathlib.Core.Path.{_≡_, refl, sym, ap, _∙_, subst}
 use Prim.Native.Nat.{ℕ, zero, suc, _^_, _≤_, _<_}
 use native.Mathlib.Decide.{ℕ-discrete}
@@ -17,10 +17,8 @@ use Rattle.adjacency.specs.Tables.{inList}
 use Rattle.grid.specs.Grid.{cells, neighbour}
 use Rattle.consistency.specs.Domains.{possible, Fit, emptied, settledAs}
 use Rattle.consistency.specs.Consistent.{Greatest}
-use Rattle.consistency.specs.Worklist.{State}
-use Rattle.propagation.specs.Beside.{Beside}
 use Rattle.run.specs.declared.Forbid.{Forbid}
-use Rattle.run.specs.Observer.{countsAt, Sight}
+use Rattle.run.specs.Observer.{countsAt}
 use Rattle.run.specs.Run.{Given, notesOf, sighted, Ended, decided}
 use Rattle.run.specs.Course.{Lawful, fullLess, Final}
 use Rattle.loops.proofs.TestLaws.{T-true, true-T, every-at, every-fails}

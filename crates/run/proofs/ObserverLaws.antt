@@ -11,7 +11,7 @@ use native.Mathlib.Omega.{arith}
 use lib.Bits.{bitAnd}
 use lib.Dec.{eqb}
 use lib.Ieee.{Float, nan, eq}
-use lib.ListN.{length, getD, List·getD-eq-default}
+use lib.ListN.{length, getD, take, drop, length-take, length-drop, List·getD-eq-default}
 use lib.Seq.{getD-drop, getD-take}
 use borrow.Author.Count.{below-more}
 use borrow.Author.Tests.{leb-true, eqb-true, eqb-false, not-true, le-ltb}
@@ -113,6 +113,10 @@ ordered v numbers l c e =
       | yes h ↦ numbers .at c h
       | no n ↦ absurd (valid-counts (getD (v .counts) c 0) (getD (v .domains) c 0) (v .mask) e .noted (List·getD-eq-default (v .counts) 0 (omega arith)))
     ]
+
+-- what the run keeps has an entropy for each count
+pub lengths-each : {cells : ℕ} {noise domains marks : List ℕ} {floats : List Float} → Lengths cells noise domains floats marks → length (take cells marks) ≤ length (drop cells floats)
+lengths-each {cells} {marks = marks} {floats = floats} each = omega (arith, length-take cells marks, length-drop cells floats)
 
 -- the best of the first k cells is cell c
 record Picked (v : Notes) (k c : ℕ) : Type 0 where

@@ -1,14 +1,13 @@
 -- Open cells, those with two patterns or more: a choice leaves fewer of them, for it decides one for good. Assumes nothing.
 use mathlib.Core.List.{List}
-use mathlib.Core.Path.{_≡_, _∙_}
+use mathlib.Core.Path.{_≡_}
 use Prim.Native.Nat.{ℕ, _-_, _≤_, _<_, min}
-use native.Mathlib.Decide.{ℕ-discrete}
 use native.Mathlib.Omega.{arith}
 use lib.ListN.{getD}
 use Rattle.loops.specs.Sums.{sumTo}
-use Rattle.words.specs.Words.{bit, without, howMany}
+use Rattle.words.specs.Words.{howMany}
 use Rattle.consistency.specs.Domains.{possible, Sub}
-use Rattle.loops.proofs.SumLaws.{sum-le, sum-less, sum-mono, sum-most, sum-zero}
+use Rattle.loops.proofs.SumLaws.{sum-le, sum-less, sum-most}
 use Rattle.words.proofs.CountLaws.{many-sub, many-one}
 use Rattle.consistency.proofs.DomainLaws.{sub-le}
 

@@ -10,7 +10,8 @@ use Rattle.adjacency.specs.Tables.{Table, table}
 use Rattle.grid.specs.Grid.{Grid, grid}
 use Rattle.run.specs.declared.Forbid.{Forbid}
 use Rattle.run.specs.Called.{Memory, memory, runTests}
-use Rattle.run.proofs.Cases.{checker, forbid, keepOnly}
+use Rattle.consistency.proofs.Cases.{checker}
+use Rattle.run.proofs.Cases.{forbid, keepOnly}
 
 -- the number of the refusal, 0 where the call is accepted; the noise words are 0
 refusal : Table → List ℕ → Grid → ℕ → List Forbid → Memory → ℕ

@@ -10,7 +10,8 @@ use Rattle.adjacency.specs.Tables.{Table, table}
 use Rattle.grid.specs.Grid.{grid, cells}
 use Rattle.refusals.specs.Refusals.{Asked, refused, answer}
 use Rattle.run.specs.Called.{End, Outcome}
-use Rattle.run.proofs.Cases.{checker, free, forbid, keepOnly, Call, call, Case, case, found, stated, Hold, A, B, G, H, I}
+use Rattle.consistency.proofs.Cases.{checker}
+use Rattle.run.proofs.Cases.{free, forbid, keepOnly, Call, call, Case, case, found, stated, Hold, A, B, G, H, I}
 
 -- ---- errors that look right
 

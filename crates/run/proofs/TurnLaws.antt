@@ -4,13 +4,9 @@ use mathlib.Core.Bool.{Bool, true, false, cond}
 use mathlib.Core.List.{List}
 use mathlib.Core.Option.{Option, none, some, Option·some-injective, Option·none-ne-some}
 use mathlib.Core.Path.{_≡_, refl, sym, ap, subst}
-use Prim.Native.Nat.{ℕ, zero, suc, _+_, _%_, _≤_, _<_}
-use native.Mathlib.Nat.{mod-lt}
-use native.Mathlib.Numerals.{add-one}
-use lib.Dec.{ltb}
+use Prim.Native.Nat.{ℕ, zero, suc, _≤_, _<_}
 use lib.Ieee.{Float}
 use lib.ListN.{length, getD, replicate}
-use borrow.Author.Tests.{ltb-true, ltb-false}
 use Rattle.words.specs.Words.{howMany}
 use Rattle.adjacency.specs.Weights.{weightSum}
 use Rattle.consistency.specs.Domains.{possible}

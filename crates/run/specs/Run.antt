@@ -1,5 +1,5 @@
--- A run, step by step. Follows docs/RULES.md, "Run".
--- Assumes nothing.
+-- A run, step by step: full domains, the forbids, then observe and choose until it ends; `runOf` is the whole of it.
+-- Follows docs/RULES.md, "Run". Assumes nothing.
 use mathlib.Core.Bool.{Bool, cond}
 use mathlib.Core.List.{List, [], _∷_, _++_}
 use mathlib.Core.Option.{Option, none, some}

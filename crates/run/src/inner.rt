@@ -1,4 +1,4 @@
-// The steps of a run, for the crates above.
+// The steps of a run, without checks. Follows docs/RULES.md, "Run".
 ghost use mathlib.Core.Option.{some};
 ghost use mathlib.Core.Path.{_≡_};
 ghost use Prim.Native.Nat.{_<_};

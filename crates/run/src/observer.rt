@@ -1,6 +1,6 @@
 // The scan behind `inner::observe`: the best cell so far, and how a further cell is held against it.
-// Follows docs/RULES.md, "Run"; stands for `Observer` of the Rust. Its heap and its counter of open cells are gone: a note that no longer
-// counts never counts again, so one note for each cell decides.
+// Follows docs/RULES.md, "Run"; stands for `Observer` of the Rust, whose heap keeps old notes too: one that no longer counts never counts again,
+// so one note for each cell decides. Main property: the cell found is the least of those whose note counts.
 ghost use mathlib.Core.Path.{_≡_};
 ghost use Prim.Native.Nat.{_-_, _≤_, _<_};
 ghost use Rattle.run.specs.Observer.{Lengths, notesIn, valid, join, candidate, bestIn};
@@ -17,7 +17,7 @@ fn wide(x: u8) -> usize
     x as usize
 }
 
-// Whether a note counts. Most cells have none, which is tested before any ones are counted.
+// Whether a note counts. A count of 0 is no note, and is passed before any ones are counted.
 fn valid(count: usize, word: u64, weighted: u64) -> bool
     ensures { λ r. ⌜ r ≡ valid count word weighted ⌝ }
 {
