@@ -49,7 +49,7 @@ pub fn list<'a>(
     }
 }
 
-// Beside `list`, with the same words: whether it is answered, or why not.
+// Beside `list`, with the same arguments: whether it is answered, or why not.
 pub fn list_refusal(
     count: usize,
     offsets: &[u32],
