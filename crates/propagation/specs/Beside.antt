@@ -27,15 +27,18 @@ beside floats marks = record { floats = floats; marks = marks }
 abbrev pub weightedIn : List ℕ → ℕ → ℕ
 weightedIn weights w = howMany (length weights) (bitAnd w (mask weights))
 
+-- w log w is taken off a cell's running value; a weight of 0 takes nothing off, and needs none
+unfoldable pub lessenedBy : ℕ → ℕ → Beside → Beside
+unfolding minus
+lessenedBy zero c x = x
+lessenedBy (suc w) c x = beside (set (x .floats) c (minus (getD (x .floats) c nan) (suc w))) (x .marks)
+
 -- over the weights
 module _ (weights : List ℕ) where
-  -- a removal takes w log w off the cell's running value, where its pattern has weight
+  -- a removal takes its pattern's w log w off the cell's running value
   unfoldable pub lessened : Removal → List ℕ → Beside → Beside
-  unfolding weighted minus
-  lessened u D x =
-      cond (weighted weights (u .pattern))
-      (beside (set (x .floats) (u .cell) (minus (getD (x .floats) (u .cell) nan) (weightOf weights (u .pattern)))) (x .marks))
-      x
+  unfolding lessenedBy
+  lessened u D x = lessenedBy (weightOf weights (u .pattern)) (u .cell) x
 
   -- a weighted removal that leaves a weighted pattern and at least two patterns proposes an entropy; w is the cell's word after it
   unfoldable pub proposes : ℕ → ℕ → Bool
@@ -48,27 +51,29 @@ unfolding lowered
 proposed zero old entropy count = note entropy (old .noise) count
 proposed (suc fresh) old entropy count = lowered old entropy count
 
--- over the weights, the noise words and the number of cells
-module _ (weights noise : List ℕ) (cells : ℕ) where
+-- over the noise words and the number of cells
+module _ (noise : List ℕ) (cells : ℕ) where
   -- the note of a cell
   abbrev pub noteOf : ℕ → Beside → Note
   noteOf c x = note (getD (x .floats) (cells + c) nan) (getD noise c 0) (getD (x .marks) c 0)
 
-  -- a note is written, and that it was noted in this propagation
-  abbrev pub noted : ℕ → Note → Beside → Beside
-  noted c n x = beside (set (x .floats) (cells + c) (n .entropy)) (set (set (x .marks) c (n .count)) (cells + c) 1)
+  -- a cell's note after a proposal of an entropy with its weighted count
+  abbrev pub noteAfter : ℕ → Float → ℕ → Beside → Note
+  noteAfter c entropy count x = proposed (getD (x .marks) (cells + c) 0) (noteOf c x) entropy count
 
-  -- the entropy of a cell with that word and the running value that it has now
-  abbrev pub entropyNow : ℕ → ℕ → Beside → Float
-  entropyNow c w x = entropy (weightSum weights w) (getD (x .floats) c nan)
+  -- that note is written, and that the cell was noted in this propagation
+  unfoldable pub noted : ℕ → Float → ℕ → Beside → Beside
+  unfolding proposed
+  noted c entropy count x =
+      beside (set (x .floats) (cells + c) (noteAfter c entropy count x .entropy)) (set (set (x .marks) c (noteAfter c entropy count x .count)) (cells + c) 1)
 
-  -- a removal's proposal, where it makes one; w is the cell's word after it
+-- over the weights, the noise words and the number of cells
+module _ (weights noise : List ℕ) (cells : ℕ) where
+  -- a removal's proposal, where it makes one: the entropy of the cell's word w after it, from the running value that the cell has now
   unfoldable pub proposing : ℕ → ℕ → ℕ → Beside → Beside
-  unfolding proposes proposed entropy weightSum
+  unfolding proposes noted entropy weightSum
   proposing c p w x =
-      cond (proposes weights p w)
-      (noted c (proposed (getD (x .marks) (cells + c) 0) (noteOf c x) (entropyNow c w x) (weightedIn weights w)) x)
-      x
+      cond (proposes weights p w) (noted noise cells c (entropy (weightSum weights w) (getD (x .floats) c nan)) (weightedIn weights w) x) x
 
   -- what a removal in propagation changes beside the domains
   unfoldable pub kept : Removal → List ℕ → Beside → Beside

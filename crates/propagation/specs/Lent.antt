@@ -2,7 +2,7 @@
 use mathlib.Core.Path.{_≡_}
 use mathlib.Core.Bool.{Bool, true, false}
 use mathlib.Core.List.{List, [], _∷_}
-use Prim.Native.Nat.{ℕ, zero, suc, _+_, _*_, _/_, _%_, _≤_, _<_}
+use Prim.Native.Nat.{ℕ, zero, suc, _+_, _-_, _*_, _/_, _%_, _≤_, _<_}
 use lib.Ieee.{Float}
 use lib.ListN.{length, getD}
 use Rattle.adjacency.specs.Tables.{Table}
@@ -22,6 +22,13 @@ pendingOf P l (suc n) = removal (getD l n 0 / P) (getD l n 0 % P) ∷ pendingOf 
 abbrev pub stateOf : {X : Type 0} → ℕ → List ℕ → List ℕ → List ℕ → Pile → X → State X
 stateOf P domains counts pending pile x =
     record { counts = counts; domains = domains; pending = pendingOf P pending (pile .top); empty = pile .empty; beside = x }
+
+-- the removal on top of a pile, and the pile without it
+abbrev pub topOf : ℕ → List ℕ → Pile → Removal
+topOf P pending pile = removal (getD pending (pile .top - 1) 0 / P) (getD pending (pile .top - 1) 0 % P)
+
+abbrev pub lowered : Pile → Pile
+lowered pile = record { top = pile .top - 1; empty = pile .empty }
 
 -- the lent slices of a propagation of P patterns at n cells: a safe state, and a pile for every removal there can be
 pub record Lent (P n : ℕ) (domains counts pending : List ℕ) (pile : Pile) : Type 0 where

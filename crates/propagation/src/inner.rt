@@ -3,10 +3,10 @@
 ghost use mathlib.Core.Bool.{true};
 ghost use mathlib.Core.Path.{_≡_};
 ghost use mathlib.Core.List.{List};
-ghost use Prim.Native.Nat.{ℕ, _*_, _≤_, _<_};
+ghost use Prim.Native.Nat.{ℕ, _*_, _<_};
 ghost use lib.ListN.{length};
 ghost use Rattle.adjacency.specs.Tables.{table};
-ghost use Rattle.adjacency.specs.Weights.{Weighed, weighted};
+ghost use Rattle.adjacency.specs.Weights.{Weighed, weighted, mask};
 ghost use Rattle.grid.specs.Grid.{grid};
 ghost use Rattle.consistency.specs.Domains.{possible};
 ghost use Rattle.consistency.specs.Worklist.{removal};
@@ -53,11 +53,61 @@ pub fn remove(
     let top = pile.top;
     pending[top] = narrow(slot);
     let weight = weights[pattern];
-    if weight != 0 {
-        floats[cell] = logarithms::inner::removed(floats[cell], weight);
-    }
+    crate::notes::lessen(weight, cell, floats);
     Pile {
         top: top + 1,
-        empty: pile.empty || word == 0,
+        empty: pile.empty | (word == 0),
     }
+}
+
+// Propagates what is pending: pops until the pile is empty or a cell is.
+pub fn propagate(
+    count: usize,
+    offsets: &[u32],
+    ids: &[u8],
+    weights: &[u32],
+    weighted: u64,
+    width: usize,
+    height: usize,
+    mode: usize,
+    noise: &[u32],
+    domains: &mut [u64],
+    counts: &mut [u8],
+    pending: &mut [u32],
+    floats: &mut [f32],
+    marks: &mut [u8],
+    pile: Pile,
+) -> Pile
+    requires { ⌜ Lent count (length (now domains)) (now domains) (now counts) (now pending) pile ⌝ }
+    requires { ⌜ Ground (table count (now offsets) (now ids)) (grid width height mode) (length (now domains)) ⌝ }
+    requires { ⌜ Room count (length (now domains)) (now weights) (now noise) (now floats) (now marks) × (weighted ≡ mask (now weights)) ⌝ }
+    ensures { λ r. ⌜ stateOf count (now (domains .exit)) (now (counts .exit)) (now (pending .exit)) r (beside (now (floats .exit)) (now (marks .exit)))
+        ≡ worklist.propagated (table count (now (offsets .entry)) (now (ids .entry))) (grid width height mode) (kept (now (weights .entry)) (now (noise .entry)) (length (now (domains .entry))))
+        (stateOf count (now (domains .entry)) (now (counts .entry)) (now (pending .entry)) pile
+        (unmarked (length (now (domains .entry))) (beside (now (floats .entry)) (now (marks .entry))))) ⌝ }
+{
+    let cells = domains.len();
+    crate::notes::unmark(cells, marks);
+    let mut next = pile;
+    while (0 < next.top) & !next.empty {
+        next = crate::propagator::pop(
+            count,
+            offsets,
+            ids,
+            weights,
+            weighted,
+            width,
+            height,
+            mode,
+            noise,
+            cells,
+            domains,
+            counts,
+            pending,
+            floats,
+            marks,
+            next,
+        );
+    }
+    next
 }

@@ -4,8 +4,9 @@
 use refusals::Refusal;
 
 pub mod inner;
-mod num_ways;
 mod notes;
+mod num_ways;
+mod propagator;
 
 // What propagation of starting domains answers.
 pub enum Propagated {

@@ -1,14 +1,25 @@
-// What propagation notes of a cell: the entropy that a removal proposes.
-// Follows docs/RULES.md, "Propagation".
-ghost use mathlib.Core.Bool.{true};
+// What is kept beside the domains: a running value for each cell, and the entropy that a removal proposes.
+// Follows docs/RULES.md, "Propagation" and "Entropy".
+ghost use mathlib.Core.List.{List};
 ghost use mathlib.Core.Path.{_≡_};
-ghost use Prim.Native.Nat.{_+_, _*_, _^_, _≤_, _<_};
+ghost use Prim.Native.Nat.{ℕ, _^_, _≤_, _<_};
+ghost use lib.Ieee.{Float};
 ghost use lib.ListN.{length};
 ghost use Rattle.adjacency.specs.Weights.{Weighed, mask};
 ghost use Rattle.propagation.specs.Beside as meaning;
 ghost use Rattle.propagation.specs.Beside.{beside};
-ghost use Rattle.propagation.specs.Lent.{Room};
+ghost use Rattle.propagation.specs.Lent.{Room, Roomy};
 use logarithms::inner::Note;
+
+// A removal of that weight takes w log w off the cell's running value; without weight there may be none to take it off.
+pub(crate) fn lessen(weight: u32, cell: usize, floats: &mut [f32])
+    requires { ⌜ (weight ≤ 1024) × ((weight ≡ 0 → ⊥) → cell < length (now floats)) ⌝ }
+    ensures { λ _. ⌜ ((marks : List ℕ) → beside (now (floats .exit)) marks ≡ meaning.lessenedBy weight cell (beside (now (floats .entry)) marks)) ⌝ }
+{
+    if weight != 0 {
+        floats[cell] = logarithms::inner::removed(floats[cell], weight);
+    }
+}
 
 // Whether a removal proposes an entropy: its pattern has weight, and the word after it a weighted pattern and two patterns or more.
 fn proposes(count: usize, weights: &[u32], weighted: u64, pattern: usize, word: u64) -> bool
@@ -25,6 +36,12 @@ fn proposes(count: usize, weights: &[u32], weighted: u64, pattern: usize, word: 
     2 <= words::inner::count_ones(word)
 }
 
+fn wide(x: u8) -> u32
+    ensures { λ r. ⌜ r ≡ x ⌝ }
+{
+    x as u32
+}
+
 // A cell's first proposal in a propagation replaces its note; a later one only lowers it.
 fn proposed(fresh: u8, old: Note, entropy: f32, count: u32) -> Note
     ensures { λ r. ⌜ r ≡ meaning.proposed fresh old entropy count ⌝ }
@@ -37,6 +54,31 @@ fn proposed(fresh: u8, old: Note, entropy: f32, count: u32) -> Note
         };
     }
     old.lowered(entropy, count)
+}
+
+// A cell's proposal of an entropy with its weighted count.
+fn note(
+    noise: &[u32],
+    cells: usize,
+    cell: usize,
+    entropy: f32,
+    weighted: u32,
+    floats: &mut [f32],
+    marks: &mut [u8],
+)
+    requires { ⌜ Roomy cells (now noise) (now floats) (now marks) × (cell < cells) × (weighted ≤ 64) ⌝ }
+    ensures { λ _. ⌜ beside (now (floats .exit)) (now (marks .exit))
+        ≡ meaning.noted (now (noise .entry)) cells cell entropy weighted (beside (now (floats .entry)) (now (marks .entry))) ⌝ }
+{
+    let old = Note {
+        entropy: floats[cells + cell],
+        noise: noise[cell],
+        count: wide(marks[cell]),
+    };
+    let new = proposed(marks[cells + cell], old, entropy, weighted);
+    floats[cells + cell] = new.entropy;
+    marks[cell] = new.count as u8;
+    marks[cells + cell] = 1;
 }
 
 // A removal's proposal, where it makes one.
@@ -53,29 +95,22 @@ pub(crate) fn propose(
     marks: &mut [u8],
 )
     requires { ⌜ Room count cells (now weights) (now noise) (now floats) (now marks) × (weighted ≡ mask (now weights)) ⌝ }
-    requires { ⌜ (count ≤ 64) × (cells ≤ 1024) × (cell < cells) × (pattern < count) × (word < 2 ^ count) ⌝ }
+    requires { ⌜ (count ≤ 64) × (cell < cells) × (pattern < count) × (word < 2 ^ count) ⌝ }
     ensures { λ _. ⌜ beside (now (floats .exit)) (now (marks .exit))
         ≡ meaning.proposing (now (weights .entry)) (now (noise .entry)) cells cell pattern word (beside (now (floats .entry)) (now (marks .entry))) ⌝ }
 {
-    if !proposes(count, weights, weighted, pattern, word) {
-        return;
+    if proposes(count, weights, weighted, pattern, word) {
+        let sum = adjacency::inner::weight_sum(weights, word);
+        let entropy = logarithms::inner::entropy_from(sum, floats[cell]);
+        let ones = words::inner::count_ones(words::inner::shared(word, weighted));
+        note(noise, cells, cell, entropy, ones as u32, floats, marks);
     }
-    let sum = adjacency::inner::weight_sum(weights, word);
-    let entropy = logarithms::inner::entropy_from(sum, floats[cell]);
-    let ones = words::inner::count_ones(words::inner::shared(word, weighted));
-    let old = Note {
-        entropy: floats[cells + cell],
-        noise: noise[cell],
-        count: marks[cell] as u32,
-    };
-    let note = proposed(marks[cells + cell], old, entropy, ones as u32);
-    floats[cells + cell] = note.entropy;
-    marks[cell] = note.count as u8;
-    marks[cells + cell] = 1;
 }
 
 // A propagation begins: no cell was noted in it yet.
-pub(crate) fn unmark(cells: usize, marks: &mut [u8]) {
+pub(crate) fn unmark(cells: usize, marks: &mut [u8])
+    ensures { λ _. ⌜ ((floats : List Float) → beside floats (now (marks .exit)) ≡ meaning.unmarked cells (beside floats (now (marks .entry)))) ⌝ }
+{
     let mut i = cells;
     while i < marks.len() {
         marks[i] = 0;

@@ -1,0 +1,116 @@
+-- `propagation::propagator::decrements` meets its contract. The invariant: what is left of the list, done to the slices now, is the whole list,
+-- done to those at entry; and the slices are as they must be. The measure is what is left of the list.
+-- Assumes nothing.
+use mathlib.Core.Path.{_≡_, refl, sym, _∙_}
+use Prim.Native.Nat.{_-_, _<_}
+use native.Mathlib.Omega.{arith}
+use lib.ListN.{length, drop}
+use Rattle.loops.specs.Loops.{each}
+use Rattle.consistency.specs.Worklist.{decrement}
+use Rattle.propagation.specs.Beside.{kept}
+use Rattle.loops.proofs.LoopLaws.{each-turn, each-end}
+use Rattle.adjacency.proofs.ListLaws.{allBelow-at}
+use Rattle.consistency.proofs.Keep.{safe-decrement}
+use Rattle.propagation.proofs.LentLaws.{lent-safe, memory, stateIn, Going, going-start, going-on}
+use Rattle.propagation.proofs.PropagatorLaws.{decrements-each}
+use Rattle.propagation.proofs.propagator.decrements.Statement.{statement}
+use Rattle.propagation.proofs.propagator.decrements.Tie as tie
+
+abbrev Inv-loop : tie.InvT-loop
+Inv-loop count weights weighted noise cells cell d list domains₀ counts₀ pending₀ floats₀ marks₀ next₀ i₀ domains counts pending floats marks next i =
+    (each (decrement count (kept weights noise cells) cell d) (drop i list) (stateIn count (memory domains counts pending floats marks) next)
+    ≡ each (decrement count (kept weights noise cells) cell d) list (stateIn count (memory domains₀ counts₀ pending₀ floats₀ marks₀) next₀))
+    × Going count cells weights noise (memory domains₀ counts₀ pending₀ floats₀ marks₀) (memory domains counts pending floats marks) next
+
+abbrev μ-loop : tie.MeasureT-loop
+μ-loop count weights weighted noise cells cell d list domains₀ counts₀ pending₀ floats₀ marks₀ next₀ i₀ domains counts pending floats marks next i = length list - i
+
+-- the function's entry, from the loop's head
+abbrev start : tie.At-loop Inv-loop μ-loop → tie.Start Inv-loop μ-loop
+start l = l .before .before .before .before .before .before .before .before .before
+
+-- the pattern that a turn reads
+read : (c : tie.After-wide Inv-loop μ-loop) → c .wide .result < start (c .before .before .before) .args .count
+read c =
+    let test = c .before .before in
+    let s = start (test .before) in
+    omega (arith, c .wide .ensures, allBelow-at (s .args .list .now) (s .pre .1 .1 .2) (test .before .loop .i) (test .loop-test .taken))
+
+loop-holds : tie.Need-loop-holds Inv-loop μ-loop
+loop-holds c =
+    let (lent, ((room, _), _)) = c .before .before .before .before .before .before .before .before .pre in
+    (refl, going-start lent room)
+
+shared-slice-read-wide : tie.Need-shared-slice-read-wide Inv-loop μ-loop
+shared-slice-read-wide c = omega arith
+
+wide-requires : tie.Need-wide-requires Inv-loop μ-loop
+wide-requires c κs = tt
+
+decrement-requires : tie.Need-decrement-requires Inv-loop μ-loop
+decrement-requires c κs =
+    let wide = c .before .before .before .before .before in
+    let head = wide .before .before .before in
+    let (lent, ((room, masked), (hc, hd, below))) = start head .pre in
+    let going = head .loop .inv .1 in
+    (going .lent, ((going .room, masked), (hc, hd, read wide)))
+
+add-i : tie.Need-add-i Inv-loop μ-loop
+add-i c =
+    let test = c .before .before .before .before .before .before .before .before .before .before .before .before .before .before .before .before .before .before in
+    omega (arith, test .loop-test .taken, start (test .before) .good .1 .1 .1 .1 .1 .1 .1 .0)
+
+loop-less : tie.Need-loop-less Inv-loop μ-loop
+loop-less c = omega arith
+
+loop-again : tie.Need-loop-again Inv-loop μ-loop
+loop-again c =
+    let called = c .before .before .before .before .before .before .before .before .before .before in
+    let wide = called .before .before .before .before .before .before in
+    let test = wide .before .before in
+    let head = test .before in
+    let (lent, (room, (hc, hd, below))) = start head .pre in
+    let (left, going) = head .loop .inv in
+    let k = called .decrement .kept .1 .1 .1 .1 .1 .1 .1 .1 in (
+      each-turn _ _ (test .loop-test .taken) (wide .wide .ensures) (called .decrement .ensures) left,
+      going-on going (called .decrement .ensures) (safe-decrement _ _ _ _ _ _ _ _ hc hd (read wide) (lent-safe (going .lent) _)) (k .0) (k .1 .0) (k .1 .1 .0) (k .1 .1 .1 .0)
+          (k .1 .1 .1 .1 .0),
+    )
+
+same-length : tie.Need-same-length Inv-loop μ-loop
+same-length c = c .before .loop .inv .1 .domains
+
+same-length-2 : tie.Need-same-length-2 Inv-loop μ-loop
+same-length-2 c = c .before .loop .inv .1 .counts
+
+same-length-3 : tie.Need-same-length-3 Inv-loop μ-loop
+same-length-3 c = c .before .loop .inv .1 .pending
+
+same-length-4 : tie.Need-same-length-4 Inv-loop μ-loop
+same-length-4 c = c .before .loop .inv .1 .floats
+
+same-length-5 : tie.Need-same-length-5 Inv-loop μ-loop
+same-length-5 c = c .before .loop .inv .1 .marks
+
+returns : tie.Need-returns Inv-loop μ-loop
+returns c = each-end _ _ (c .loop-test .left) (c .before .loop .inv .0) ∙ sym (decrements-each _ _ _ _ _ _)
+
+pub decrements-spec : {M : Type 1} → statement M
+decrements-spec =
+    tie.close
+    (tie.spec
+    Inv-loop
+    μ-loop
+    loop-holds
+    shared-slice-read-wide
+    wide-requires
+    decrement-requires
+    add-i
+    loop-less
+    loop-again
+    same-length
+    same-length-2
+    same-length-3
+    same-length-4
+    same-length-5
+    returns)

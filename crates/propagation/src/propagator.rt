@@ -1,0 +1,329 @@
+// The work list: what a removal takes from its neighbours, and the pop of one removal. `Propagator` of the Rust.
+// Follows docs/RULES.md, "Propagation".
+ghost use mathlib.Core.Path.{_≡_};
+ghost use Prim.Native.Nat.{_<_};
+ghost use Rattle.adjacency.specs.Accepted.{AllBelow};
+ghost use Rattle.adjacency.specs.Tables.{table};
+ghost use Rattle.adjacency.specs.Weights.{mask};
+ghost use Rattle.grid.specs.Grid.{grid};
+ghost use Rattle.consistency.specs.Domains.{possible};
+ghost use Rattle.consistency.specs.Worklist.{removal};
+ghost use Rattle.consistency.specs.Worklist as worklist;
+ghost use Rattle.propagation.specs.Beside.{beside, kept};
+ghost use Rattle.propagation.specs.Lent.{stateOf, topOf, lowered, Lent, Room, Ground};
+use crate::inner::Pile;
+use grid::Near;
+
+fn wide(x: u8) -> usize
+    ensures { λ r. ⌜ r ≡ x ⌝ }
+{
+    x as usize
+}
+
+fn slot(x: u32) -> usize
+    ensures { λ r. ⌜ r ≡ x ⌝ }
+{
+    x as usize
+}
+
+// A pattern that is possible at a cell goes, and proposes the entropy of what is left there.
+fn remove_and_propose(
+    count: usize,
+    weights: &[u32],
+    weighted: u64,
+    noise: &[u32],
+    cells: usize,
+    cell: usize,
+    pattern: usize,
+    domains: &mut [u64],
+    counts: &mut [u8],
+    pending: &mut [u32],
+    floats: &mut [f32],
+    marks: &mut [u8],
+    pile: Pile,
+) -> Pile
+    requires { ⌜ Lent count cells (now domains) (now counts) (now pending) pile ⌝ }
+    requires { ⌜ Room count cells (now weights) (now noise) (now floats) (now marks) × (weighted ≡ mask (now weights)) ⌝ }
+    requires { ⌜ (cell < cells) × (pattern < count) × (possible (now domains) cell pattern ≡ 1) ⌝ }
+    ensures { λ r. ⌜ stateOf count (now (domains .exit)) (now (counts .exit)) (now (pending .exit)) r (beside (now (floats .exit)) (now (marks .exit)))
+        ≡ worklist.remove count (kept (now (weights .entry)) (now (noise .entry)) cells) (removal cell pattern)
+        (stateOf count (now (domains .entry)) (now (counts .entry)) (now (pending .entry)) pile (beside (now (floats .entry)) (now (marks .entry)))) ⌝ }
+{
+    let next = crate::inner::remove(
+        count,
+        weights,
+        cell,
+        pattern,
+        domains,
+        counts,
+        pending,
+        floats,
+        pile,
+    );
+    crate::notes::propose(
+        count,
+        weights,
+        weighted,
+        noise,
+        cells,
+        cell,
+        pattern,
+        domains[cell],
+        floats,
+        marks,
+    );
+    next
+}
+
+// Takes one support from direction d from pattern q at a cell; where it was the last, the pattern goes.
+fn decrement(
+    count: usize,
+    weights: &[u32],
+    weighted: u64,
+    noise: &[u32],
+    cells: usize,
+    cell: usize,
+    d: usize,
+    q: usize,
+    domains: &mut [u64],
+    counts: &mut [u8],
+    pending: &mut [u32],
+    floats: &mut [f32],
+    marks: &mut [u8],
+    pile: Pile,
+) -> Pile
+    requires { ⌜ Lent count cells (now domains) (now counts) (now pending) pile ⌝ }
+    requires { ⌜ Room count cells (now weights) (now noise) (now floats) (now marks) × (weighted ≡ mask (now weights)) ⌝ }
+    requires { ⌜ (cell < cells) × (d < 4) × (q < count) ⌝ }
+    ensures { λ r. ⌜ stateOf count (now (domains .exit)) (now (counts .exit)) (now (pending .exit)) r (beside (now (floats .exit)) (now (marks .exit)))
+        ≡ worklist.decrement count (kept (now (weights .entry)) (now (noise .entry)) cells) cell d q
+        (stateOf count (now (domains .entry)) (now (counts .entry)) (now (pending .entry)) pile (beside (now (floats .entry)) (now (marks .entry)))) ⌝ }
+{
+    if crate::num_ways::try_decrement(counts, (cell * count + q) * 4 + d) {
+        return remove_and_propose(
+            count,
+            weights,
+            weighted,
+            noise,
+            cells,
+            cell,
+            q,
+            domains,
+            counts,
+            pending,
+            floats,
+            marks,
+            pile,
+        );
+    }
+    pile
+}
+
+// The same for each pattern of a list, in its order.
+fn decrements(
+    count: usize,
+    weights: &[u32],
+    weighted: u64,
+    noise: &[u32],
+    cells: usize,
+    cell: usize,
+    d: usize,
+    list: &[u8],
+    domains: &mut [u64],
+    counts: &mut [u8],
+    pending: &mut [u32],
+    floats: &mut [f32],
+    marks: &mut [u8],
+    pile: Pile,
+) -> Pile
+    requires { ⌜ Lent count cells (now domains) (now counts) (now pending) pile ⌝ }
+    requires { ⌜ Room count cells (now weights) (now noise) (now floats) (now marks) × (weighted ≡ mask (now weights)) ⌝ }
+    requires { ⌜ (cell < cells) × (d < 4) × AllBelow count (now list) ⌝ }
+    ensures { λ r. ⌜ stateOf count (now (domains .exit)) (now (counts .exit)) (now (pending .exit)) r (beside (now (floats .exit)) (now (marks .exit)))
+        ≡ worklist.decrements count (kept (now (weights .entry)) (now (noise .entry)) cells) cell d (now (list .entry))
+        (stateOf count (now (domains .entry)) (now (counts .entry)) (now (pending .entry)) pile (beside (now (floats .entry)) (now (marks .entry)))) ⌝ }
+{
+    let mut next = pile;
+    let mut i = 0;
+    while i < list.len() {
+        next = decrement(
+            count,
+            weights,
+            weighted,
+            noise,
+            cells,
+            cell,
+            d,
+            wide(list[i]),
+            domains,
+            counts,
+            pending,
+            floats,
+            marks,
+            next,
+        );
+        i += 1;
+    }
+    next
+}
+
+// What the removal of pattern p from a cell takes from the neighbour in direction d, where there is one.
+fn spread_in(
+    count: usize,
+    offsets: &[u32],
+    ids: &[u8],
+    weights: &[u32],
+    weighted: u64,
+    width: usize,
+    height: usize,
+    mode: usize,
+    noise: &[u32],
+    cells: usize,
+    cell: usize,
+    p: usize,
+    d: usize,
+    domains: &mut [u64],
+    counts: &mut [u8],
+    pending: &mut [u32],
+    floats: &mut [f32],
+    marks: &mut [u8],
+    pile: Pile,
+) -> Pile
+    requires { ⌜ Lent count cells (now domains) (now counts) (now pending) pile ⌝ }
+    requires { ⌜ Ground (table count (now offsets) (now ids)) (grid width height mode) cells × (cell < cells) × (p < count) × (d < 4) ⌝ }
+    requires { ⌜ Room count cells (now weights) (now noise) (now floats) (now marks) × (weighted ≡ mask (now weights)) ⌝ }
+    ensures { λ r. ⌜ stateOf count (now (domains .exit)) (now (counts .exit)) (now (pending .exit)) r (beside (now (floats .exit)) (now (marks .exit)))
+        ≡ worklist.spreadIn (table count (now (offsets .entry)) (now (ids .entry))) (grid width height mode) (kept (now (weights .entry)) (now (noise .entry)) cells) (removal cell p) d
+        (stateOf count (now (domains .entry)) (now (counts .entry)) (now (pending .entry)) pile (beside (now (floats .entry)) (now (marks .entry)))) ⌝ }
+{
+    let near = grid::inner::neighbour_of(width, height, mode, cell, d);
+    match near {
+        Near::Cell(n) => decrements(
+            count,
+            weights,
+            weighted,
+            noise,
+            cells,
+            n,
+            d,
+            adjacency::inner::list_of(count, offsets, ids, p, d),
+            domains,
+            counts,
+            pending,
+            floats,
+            marks,
+            pile,
+        ),
+        Near::Edge => pile,
+    }
+}
+
+// What a removal takes from its neighbours, directions 0 to 3.
+fn spread(
+    count: usize,
+    offsets: &[u32],
+    ids: &[u8],
+    weights: &[u32],
+    weighted: u64,
+    width: usize,
+    height: usize,
+    mode: usize,
+    noise: &[u32],
+    cells: usize,
+    cell: usize,
+    p: usize,
+    domains: &mut [u64],
+    counts: &mut [u8],
+    pending: &mut [u32],
+    floats: &mut [f32],
+    marks: &mut [u8],
+    pile: Pile,
+) -> Pile
+    requires { ⌜ Lent count cells (now domains) (now counts) (now pending) pile ⌝ }
+    requires { ⌜ Ground (table count (now offsets) (now ids)) (grid width height mode) cells × (cell < cells) × (p < count) ⌝ }
+    requires { ⌜ Room count cells (now weights) (now noise) (now floats) (now marks) × (weighted ≡ mask (now weights)) ⌝ }
+    ensures { λ r. ⌜ stateOf count (now (domains .exit)) (now (counts .exit)) (now (pending .exit)) r (beside (now (floats .exit)) (now (marks .exit)))
+        ≡ worklist.spread (table count (now (offsets .entry)) (now (ids .entry))) (grid width height mode) (kept (now (weights .entry)) (now (noise .entry)) cells) (removal cell p)
+        (stateOf count (now (domains .entry)) (now (counts .entry)) (now (pending .entry)) pile (beside (now (floats .entry)) (now (marks .entry)))) ⌝ }
+{
+    let mut next = pile;
+    let mut d = 0;
+    while d < 4 {
+        next = spread_in(
+            count,
+            offsets,
+            ids,
+            weights,
+            weighted,
+            width,
+            height,
+            mode,
+            noise,
+            cells,
+            cell,
+            p,
+            d,
+            domains,
+            counts,
+            pending,
+            floats,
+            marks,
+            next,
+        );
+        d += 1;
+    }
+    next
+}
+
+// Pops the removal on top of the pile and spreads it.
+pub(crate) fn pop(
+    count: usize,
+    offsets: &[u32],
+    ids: &[u8],
+    weights: &[u32],
+    weighted: u64,
+    width: usize,
+    height: usize,
+    mode: usize,
+    noise: &[u32],
+    cells: usize,
+    domains: &mut [u64],
+    counts: &mut [u8],
+    pending: &mut [u32],
+    floats: &mut [f32],
+    marks: &mut [u8],
+    pile: Pile,
+) -> Pile
+    requires { ⌜ Lent count cells (now domains) (now counts) (now pending) pile ⌝ }
+    requires { ⌜ Ground (table count (now offsets) (now ids)) (grid width height mode) cells × (0 < pile .top) ⌝ }
+    requires { ⌜ Room count cells (now weights) (now noise) (now floats) (now marks) × (weighted ≡ mask (now weights)) ⌝ }
+    ensures { λ r. ⌜ stateOf count (now (domains .exit)) (now (counts .exit)) (now (pending .exit)) r (beside (now (floats .exit)) (now (marks .exit)))
+        ≡ worklist.spread (table count (now (offsets .entry)) (now (ids .entry))) (grid width height mode) (kept (now (weights .entry)) (now (noise .entry)) cells) (topOf count (now (pending .entry)) pile)
+        (stateOf count (now (domains .entry)) (now (counts .entry)) (now (pending .entry)) (lowered pile) (beside (now (floats .entry)) (now (marks .entry)))) ⌝ }
+{
+    let top = pile.top - 1;
+    let u = slot(pending[top]);
+    spread(
+        count,
+        offsets,
+        ids,
+        weights,
+        weighted,
+        width,
+        height,
+        mode,
+        noise,
+        cells,
+        u / count,
+        u % count,
+        domains,
+        counts,
+        pending,
+        floats,
+        marks,
+        Pile {
+            top: top,
+            empty: pile.empty,
+        },
+    )
+}
