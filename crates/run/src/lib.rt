@@ -5,6 +5,7 @@ use refusals::Refusal;
 use refusals::Verdict;
 
 pub mod inner;
+mod laying;
 mod observer;
 
 pub struct Forbid {

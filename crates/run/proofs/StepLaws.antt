@@ -1,0 +1,174 @@
+-- Laws of a run's steps on lent slices: removing the possible ones upward removes all that are asked for, and what each step leaves for the next.
+-- Follows docs/RULES.md, "Run" and "Propagation".
+-- Assumes nothing.
+use mathlib.Core.Bool.{Bool, true, false, cond, true≢false}
+use mathlib.Core.List.{List, [], _∷_}
+use mathlib.Core.Path.{_≡_, refl, sym, ap, subst, _∙_}
+use Prim.Native.Nat.{ℕ, zero, suc, _+_, _*_, _^_, _≤_, _<_}
+use native.Mathlib.Decide.{ℕ-discrete}
+use native.Mathlib.Omega.{arith}
+use lib.Dec.{eqb}
+use lib.Ieee.{Float}
+use lib.ListN.{length, getD, set}
+use lib.Seq.{getD-set-same}
+use borrow.Author.Tests.{eqb-false, ne-eqb}
+use Rattle.words.specs.Words.{bit, has, without, least}
+use Rattle.adjacency.specs.Weights.{weighted}
+use Rattle.consistency.specs.Domains.{possible, removed, Fit}
+use Rattle.consistency.specs.Worklist.{Removal, removal, State, remove, forbidAt, forbid, forbids}
+use Rattle.consistency.specs.Start.{failing, others}
+use Rattle.consistency.specs.Safe.{Safe}
+use Rattle.propagation.specs.declared.inner.Pile.{Pile}
+use Rattle.propagation.specs.Lent.{stateOf, Lent}
+use Rattle.words.proofs.BitLaws.{bit-none, bit-not, has-true, true-has}
+use Rattle.words.proofs.ChangeLaws.{bit-without, bit-without-other, without-le, without-less}
+use Rattle.words.proofs.LeastLaws.{least-below, least-found}
+use Rattle.consistency.proofs.Keep.{safe-remove}
+use Rattle.propagation.proofs.LentLaws.{lent-safe, lent-after}
+
+-- ---- removals that are asked for
+
+module _ (P : ℕ) {X : Type 0} (keep : Removal → List ℕ → X → X) where
+  pub forbid-gone : (u : Removal) (s : State X) → possible (s .domains) (u .cell) (u .pattern) ≡ 0 → forbid P keep u s ≡ s
+  unfolding forbid
+  forbid-gone u s e = rw (e, forbidAt)
+
+  pub forbid-there : (u : Removal) (s : State X) → possible (s .domains) (u .cell) (u .pattern) ≡ 1 → forbid P keep u s ≡ remove P keep u s
+  unfolding forbid forbidAt
+  forbid-there u s e = ap (λ (b : ℕ). forbidAt P keep b u s) e
+
+  -- what is possible at a cell after the removal of a pattern there
+  module _ (s : State X) (c q : ℕ) (h : c < length (s .domains)) where
+    pub remove-word : getD (remove P keep (removal c q) s .domains) c 0 ≡ without (getD (s .domains) c 0) q
+    unfolding remove
+    remove-word = getD-set-same (s .domains) c _ 0 h
+
+    remove-gone : possible (remove P keep (removal c q) s .domains) c q ≡ 0
+    remove-gone = ap (λ (w : ℕ). bit w q) remove-word ∙ bit-without (getD (s .domains) c 0) q
+
+    remove-other : (r : ℕ) → (r ≡ q → ⊥) → possible (remove P keep (removal c q) s .domains) c r ≡ possible (s .domains) c r
+    remove-other r n = ap (λ (w : ℕ). bit w r) remove-word ∙ bit-without-other (getD (s .domains) c 0) q r n
+
+  module _ (test : ℕ → Bool) (c : ℕ) where
+    -- where none of them is possible nothing goes
+    pub forbids-none : (n i : ℕ) (s : State X) → ((q : ℕ) → i ≤ q → q < i + n → test q ≡ false → possible (s .domains) c q ≡ 0)
+        → forbids P keep (failing test n i c) s ≡ s
+    unfolding failing forbids
+    forbids-none zero i s h = refl
+    forbids-none (suc n) i s h = go (test i) refl (forbids-none n (suc i) s (λ q a b. h q (omega arith) (omega arith)))
+      where
+        go : (b : Bool) → test i ≡ b → forbids P keep (failing test n (suc i) c) s ≡ s
+            → forbids P keep (cond b (failing test n (suc i) c) (removal c i ∷ failing test n (suc i) c)) s ≡ s
+        go true e f = f
+        go false e f = ap (forbids P keep (failing test n (suc i) c)) (forbid-gone (removal c i) s (h i (omega arith) (omega arith) e)) ∙ f
+
+    -- the least that is possible goes first
+    module _ (s : State X) (q : ℕ) (h : c < length (s .domains)) (out : test q ≡ false) (there : possible (s .domains) c q ≡ 1) where
+      pub forbids-first : (n i : ℕ) → i ≤ q → q < i + n → ((r : ℕ) → i ≤ r → r < q → test r ≡ false → possible (s .domains) c r ≡ 0)
+          → forbids P keep (failing test n i c) (remove P keep (removal c q) s) ≡ forbids P keep (failing test n i c) s
+      unfolding failing forbids
+      forbids-first zero i a b first = absurd (omega arith)
+      forbids-first (suc n) i a b first = step (ℕ-discrete i q) (λ z. forbids-first n (suc i) (omega (arith, z)) (omega arith) (λ r x y. first r (omega arith) y))
+        where
+          s′ : State X
+          s′ = remove P keep (removal c q) s
+
+          rest : List Removal
+          rest = failing test n (suc i) c
+
+          here : forbids P keep (removal c q ∷ rest) s′ ≡ forbids P keep (removal c q ∷ rest) s
+          here = ap (forbids P keep rest) (forbid-gone (removal c q) s′ (remove-gone s c q h) ∙ sym (forbid-there (removal c q) s there))
+
+          later : (b : Bool) → test i ≡ b → (i ≡ q → ⊥) → i < q → forbids P keep rest s′ ≡ forbids P keep rest s
+              → forbids P keep (cond b rest (removal c i ∷ rest)) s′ ≡ forbids P keep (cond b rest (removal c i ∷ rest)) s
+          later true e z l f = f
+          later false e z l f =
+              let gone = first i (omega arith) l e in
+              ap (forbids P keep rest) (forbid-gone (removal c i) s′ (remove-other s c q h i z ∙ gone))
+              ∙ f ∙ ap (forbids P keep rest) (sym (forbid-gone (removal c i) s gone))
+
+          step : Dec (i ≡ q) → ((i ≡ q → ⊥) → forbids P keep rest s′ ≡ forbids P keep rest s)
+              → forbids P keep (cond (test i) rest (removal c i ∷ rest)) s′ ≡ forbids P keep (cond (test i) rest (removal c i ∷ rest)) s
+          step (yes z) more =
+              subst (λ (j : ℕ). forbids P keep (cond (test j) rest (removal c j ∷ rest)) s′ ≡ forbids P keep (cond (test j) rest (removal c j ∷ rest)) s) (sym z)
+              (rw out here)
+          step (no z) more = later (test i) refl z (omega (arith, z)) (more z)
+
+-- ---- one; b is whether it is possible
+
+module _ (p w : ℕ) {b : Bool} (e : b ≡ has w p) where
+  pub there : b ≡ true → bit w p ≡ 1
+  there t = has-true w p (sym e ∙ t)
+
+  module _ (P : ℕ) {X : Type 0} (keep : Removal → List ℕ → X → X) (s : State X) (c : ℕ) (at : w ≡ getD (s .domains) c 0) where
+    pub forbids-there : b ≡ true → {s′ : State X} → s′ ≡ remove P keep (removal c p) s → s′ ≡ forbids P keep (removal c p ∷ []) s
+    unfolding forbids
+    forbids-there t k = k ∙ sym (forbid-there P keep (removal c p) s (ap (λ (v : ℕ). bit v p) (sym at) ∙ there t))
+
+    pub forbids-gone : b ≡ false → s ≡ forbids P keep (removal c p ∷ []) s
+    unfolding forbids
+    forbids-gone t = sym (forbid-gone P keep (removal c p) s (ap (λ (v : ℕ). bit v p) (sym at) ∙ bit-not w p (λ z. true≢false (sym (true-has w p z) ∙ sym e ∙ t))))
+
+-- ---- all but one, upward
+
+-- the lent slices while patterns are removed as asked: as they must be, and as long as they were
+pub record Striking (P n : ℕ) (C₀ Q₀ : List ℕ) (F₀ : List Float) (D C Q : List ℕ) (F : List Float) (pile : Pile) : Type 0 where
+  pub lent : Lent P n D C Q pile
+  pub domains : length D ≡ n
+  pub counts : length C ≡ length C₀
+  pub pending : length Q ≡ length Q₀
+  pub floats : length F ≡ length F₀
+
+module _ {P n : ℕ} {D C Q : List ℕ} {pile : Pile} (L : Lent P n D C Q pile) {c : ℕ} (hc : c < n) where
+  inside : c < length D
+  inside = omega (arith, L .safe .fit .sized)
+
+  module _ (p : ℕ) {left : ℕ} (is : left ≡ without (getD D c 0) p) where
+    other-bit : (r : ℕ) → (r ≡ p → ⊥) → possible D c r ≡ bit left r
+    other-bit r z = sym (bit-without-other (getD D c 0) p r z) ∙ ap (λ (w : ℕ). bit w r) (sym is)
+
+    -- with none left, all are removed
+    pub others-done : {X : Type 0} (keep : Removal → List ℕ → X → X) (x : X) → left ≡ 0 → forbids P keep (others P c p) (stateOf P D C Q pile x) ≡ stateOf P D C Q pile x
+    unfolding others
+    others-done keep x z =
+        forbids-none P keep (λ i. eqb i p) c P 0 (stateOf P D C Q pile x)
+        (λ r a b t. other-bit r (eqb-false r p t) ∙ ap (λ (w : ℕ). bit w r) z ∙ bit-none r)
+
+    -- q is the least that is left
+    module _ {q : ℕ} (some : left ≡ 0 → ⊥) (least-is : q ≡ least 64 left) where
+      next-found : (q < P) × (bit left q ≡ 1)
+      next-found =
+          subst (λ (r : ℕ). (r < P) × (bit left r ≡ 1)) (sym least-is)
+          (least-found 64 P left (L .patterns) (omega (arith, is, without-le (getD D c 0) p, L .safe .fit .words c)) some)
+
+      pub next-below : q < P
+      next-below = next-found .0
+
+      next-other : q ≡ p → ⊥
+      next-other z = absurd (omega (arith, next-found .1, ap (λ (w : ℕ). bit w p) is, bit-without (getD D c 0) p, ap (bit left) z))
+
+      pub next-possible : possible D c q ≡ 1
+      next-possible = other-bit q next-other ∙ next-found .1
+
+      module _ {X : Type 0} (keep : Removal → List ℕ → X → X) (x : X) {s : State X} (e : s ≡ remove P keep (removal c q) (stateOf P D C Q pile x)) where
+        -- its removal is the first of those asked for
+        pub others-next : forbids P keep (others P c p) s ≡ forbids P keep (others P c p) (stateOf P D C Q pile x)
+        unfolding others
+        others-next =
+            ap (forbids P keep (others P c p)) e
+            ∙ forbids-first P keep (λ i. eqb i p) c (stateOf P D C Q pile x) q inside (ne-eqb q p next-other) next-possible P 0 (omega arith) (omega (arith, next-below))
+            (λ r a b t. other-bit r (eqb-false r p t) ∙ least-below 64 left r (omega (arith, least-is)))
+
+        pub next-safe : Safe P n (n * P) s
+        next-safe =
+            subst (λ (z : State X). Safe P n (n * P) z) (sym e)
+            (safe-remove P n (n * P) keep (removal c q) (stateOf P D C Q pile x) hc next-below next-possible (lent-safe L x))
+
+        pub next-less : getD (s .domains) c 0 < getD D c 0
+        next-less =
+            omega (
+              arith,
+              ap (λ (z : State X). getD (z .domains) c 0) e,
+              remove-word P keep (stateOf P D C Q pile x) c q inside,
+              without-less (getD D c 0) q next-possible,
+            )
