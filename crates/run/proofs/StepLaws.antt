@@ -15,16 +15,23 @@ use borrow.Author.Tests.{eqb-false, ne-eqb}
 use Rattle.words.specs.Words.{bit, has, without, least}
 use Rattle.adjacency.specs.Weights.{weighted}
 use Rattle.consistency.specs.Domains.{possible, removed, Fit}
-use Rattle.consistency.specs.Worklist.{Removal, removal, State, remove, forbidAt, forbid, forbids}
+use Rattle.consistency.specs.Worklist.{Removal, removal, State, state, remove, forbidAt, forbid, forbids, propagated}
 use Rattle.consistency.specs.Start.{failing, others}
 use Rattle.consistency.specs.Safe.{Safe}
 use Rattle.propagation.specs.declared.inner.Pile.{Pile}
-use Rattle.propagation.specs.Lent.{stateOf, Lent}
+use Rattle.adjacency.specs.Tables.{Table}
+use Rattle.grid.specs.Grid.{Grid, cells}
+use Rattle.propagation.specs.Beside.{Beside, lessened, kept, unmarked}
+use Rattle.propagation.specs.Lent.{stateOf, Lent, Room, Ground}
+use Rattle.run.specs.declared.Forbid.{Forbid}
+use Rattle.run.specs.Run.{Given, asked, reducedBy, laid}
+use Rattle.run.specs.Steps.{asking}
 use Rattle.words.proofs.BitLaws.{bit-none, bit-not, has-true, true-has}
 use Rattle.words.proofs.ChangeLaws.{bit-without, bit-without-other, without-le, without-less}
 use Rattle.words.proofs.LeastLaws.{least-below, least-found}
-use Rattle.consistency.proofs.Keep.{safe-remove}
-use Rattle.propagation.proofs.LentLaws.{lent-safe, lent-after}
+use Rattle.consistency.proofs.Keep.{safe-remove, safe-forbids}
+use Rattle.propagation.proofs.LentLaws.{lent-safe, lent-after, room-after}
+use Rattle.run.proofs.StateLaws.{asked-inside}
 
 -- ---- removals that are asked for
 
@@ -172,3 +179,41 @@ module _ {P n : ℕ} {D C Q : List ℕ} {pile : Pile} (L : Lent P n D C Q pile) 
               remove-word P keep (stateOf P D C Q pile x) c q inside,
               without-less (getD D c 0) q next-possible,
             )
+
+-- ---- what a forbid asks for
+
+module _ (P c p : ℕ) {X : Type 0} (keep : Removal → List ℕ → X → X) (s : State X) {k : ℕ} {s′ : State X} where
+  pub asked-one : k ≡ 0 → s′ ≡ forbids P keep (removal c p ∷ []) s → s′ ≡ forbids P keep (asked P (asking c p k)) s
+  unfolding asked
+  asked-one z e = rw z e
+
+  pub asked-others : (k ≡ 0 → ⊥) → s′ ≡ forbids P keep (others P c p) s → s′ ≡ forbids P keep (asked P (asking c p k)) s
+  unfolding asked
+  asked-others z e = rw (ne-eqb k 0 z) e
+
+-- it leaves the slices as they must be
+module _ {P n : ℕ} {D C Q : List ℕ} {pile : Pile} (L : Lent P n D C Q pile) {c p : ℕ} (hc : c < n) (hp : p < P) (k : ℕ) {X : Type 0} (keep : Removal → List ℕ → X → X) (x : X) where
+  pub struck-lent : {D′ C′ Q′ : List ℕ} {r : Pile} {y : X} → stateOf P D′ C′ Q′ r y ≡ forbids P keep (asked P (asking c p k)) (stateOf P D C Q pile x)
+      → length D′ ≡ n → length Q′ ≡ length Q → Lent P (length D′) D′ C′ Q′ r
+  struck-lent {D′} {C′} {Q′} {r} {y} e d q =
+      subst (λ (m : ℕ). Lent P m D′ C′ Q′ r) (sym d)
+      (lent-after L (subst (λ (z : State X). Safe P n (n * P) z) (sym e)
+      (safe-forbids P n (n * P) keep (asked P (asking c p k)) (stateOf P D C Q pile x) (asked-inside P n (asking c p k) hc hp) (lent-safe L x))) q)
+
+-- the ground, and the room beside, for as many cells as there still are
+pub ground-at : {t : Table} {g : Grid} {m n : ℕ} → m ≡ n → Ground t g n → Ground t g m
+ground-at e G = record { accepted = G .accepted; sized = G .sized; all = e ∙ G .all }
+
+pub room-at : {P m n : ℕ} {ws noise marks : List ℕ} {floats floats′ : List Float} → m ≡ n → length floats′ ≡ length floats → Room P n ws noise floats marks
+    → Room P m ws noise floats′ marks
+room-at {P} {m} {n} {ws} {noise} {marks} {floats} {floats′} e f R = subst (λ (k : ℕ). Room P k ws noise floats′ marks) (sym e) (room-after R f refl)
+
+-- with the propagation of it the forbid is laid
+pub laid-is : (i : Given) (f : Forbid) (s s₁ : State Beside) {s₂ : State Beside} {n : ℕ} → n ≡ cells (i .grid)
+    → s₁ ≡ forbids (i .table .count) (lessened (i .weights)) (asked (i .table .count) f) s
+    → s₂ ≡ propagated (i .table) (i .grid) (kept (i .weights) (i .noise) n) (state (s₁ .counts) (s₁ .domains) (s₁ .pending) (s₁ .empty) (unmarked n (s₁ .beside)))
+    → s₂ ≡ laid i f s
+unfolding laid reducedBy
+laid-is i f s s₁ z e k =
+    (rw z at k)
+    ∙ ap (λ (r : State Beside). propagated (i .table) (i .grid) (kept (i .weights) (i .noise) (cells (i .grid))) (state (r .counts) (r .domains) (r .pending) (r .empty) (unmarked (cells (i .grid)) (r .beside)))) e
