@@ -3,17 +3,19 @@
 -- Assumes nothing.
 use mathlib.Core.Bool.{Bool, true, false, cond, true≢false}
 use mathlib.Core.List.{List, [], _∷_}
+use mathlib.Core.Option.{Option, some}
 use mathlib.Core.Path.{_≡_, refl, sym, ap, subst, _∙_}
-use Prim.Native.Nat.{ℕ, zero, suc, _+_, _*_, _^_, _≤_, _<_}
+use Prim.Native.Nat.{ℕ, zero, suc, _+_, _*_, _%_, _≤_, _<_}
 use native.Mathlib.Decide.{ℕ-discrete}
+use native.Mathlib.Nat.{mod-lt}
 use native.Mathlib.Omega.{arith}
 use lib.Dec.{eqb}
 use lib.Ieee.{Float}
-use lib.ListN.{length, getD, set}
+use lib.ListN.{length, getD, set, drop}
 use lib.Seq.{getD-set-same}
-use borrow.Author.Tests.{eqb-false, ne-eqb}
-use Rattle.words.specs.Words.{bit, has, without, least}
-use Rattle.adjacency.specs.Weights.{weighted}
+use borrow.Author.Tests.{eqb-false, eq-eqb, ne-eqb}
+use Rattle.words.specs.Words.{bit, has, without, howMany, least}
+use Rattle.adjacency.specs.Weights.{weightSum}
 use Rattle.consistency.specs.Domains.{possible, removed, Fit}
 use Rattle.consistency.specs.Worklist.{Removal, removal, State, state, remove, forbidAt, forbid, forbids, propagated}
 use Rattle.consistency.specs.Start.{failing, others}
@@ -24,14 +26,17 @@ use Rattle.grid.specs.Grid.{Grid, cells}
 use Rattle.propagation.specs.Beside.{Beside, lessened, kept, unmarked}
 use Rattle.propagation.specs.Lent.{stateOf, Lent, Room, Ground}
 use Rattle.run.specs.declared.Forbid.{Forbid}
-use Rattle.run.specs.Run.{Given, asked, reducedBy, laid}
+use Rattle.run.specs.Run.{Given, asked, reducedBy, laid, chosen, decided}
+use Rattle.run.specs.Choice.{taken}
 use Rattle.run.specs.Steps.{asking}
-use Rattle.words.proofs.BitLaws.{bit-none, bit-not, has-true, true-has}
+use Rattle.loops.proofs.TestLaws.{every-turn, every-stop, every-end}
+use Rattle.words.proofs.BitLaws.{bit-none, bit-not, bit-below, has-true, true-has}
 use Rattle.words.proofs.ChangeLaws.{bit-without, bit-without-other, without-le, without-less}
 use Rattle.words.proofs.LeastLaws.{least-below, least-found}
 use Rattle.consistency.proofs.Keep.{safe-remove, safe-forbids}
 use Rattle.propagation.proofs.LentLaws.{lent-safe, lent-after, room-after}
 use Rattle.run.proofs.StateLaws.{asked-inside}
+use Rattle.run.proofs.ChoiceLaws.{taken-in}
 
 -- ---- removals that are asked for
 
@@ -217,3 +222,36 @@ unfolding laid reducedBy
 laid-is i f s s₁ z e k =
     (rw z at k)
     ∙ ap (λ (r : State Beside). propagated (i .table) (i .grid) (kept (i .weights) (i .noise) (cells (i .grid))) (state (r .counts) (r .domains) (r .pending) (r .empty) (unmarked (cells (i .grid)) (r .beside)))) e
+
+-- ---- a choice
+
+-- the pattern that a number takes is one of the table
+pub taken-below : {P n : ℕ} {D C Q : List ℕ} {pile : Pile} (L : Lent P n D C Q pile) (ws : List ℕ) (c r : ℕ) {p : ℕ} → some p ≡ taken ws (getD D c 0) r → p < P
+taken-below {P} {n} {D} L ws c r {p} e = bit-below (getD D c 0) P p (L .safe .fit .words c) (taken-in ws (getD D c 0) r p (sym e) .0)
+
+-- a number modulo the weight sum is below it
+pub drawn-below : (r : ℕ) {sum total : ℕ} → sum ≡ total → 0 < total → r % sum < total
+drawn-below r {sum} e h = subst (λ (t : ℕ). r % sum < t) e (mod-lt r (omega (arith, e)))
+
+-- with the laying of a forbid that keeps it the choice is made
+pub chosen-is : (i : Given) (c r : ℕ) (s : State Beside) {s′ : State Beside} {sum p k : ℕ} → sum ≡ weightSum (i .weights) (getD (s .domains) c 0)
+    → some p ≡ taken (i .weights) (getD (s .domains) c 0) (r % sum) → (k ≡ 0 → ⊥) → s′ ≡ laid i (asking c p k) s
+    → s′ ≡ chosen i c (taken (i .weights) (getD (s .domains) c 0) (r % weightSum (i .weights) (getD (s .domains) c 0))) s
+unfolding laid asked chosen
+chosen-is i c r s is e z f =
+    (rw (ne-eqb _ 0 z) at f) ∙ ap (λ (o : Option ℕ). chosen i c o s) (e ∙ ap (λ (m : ℕ). taken (i .weights) (getD (s .domains) c 0) (r % m)) is)
+
+-- ---- whether every cell has one pattern; k is how many the cell of this turn has
+
+module _ (l : List ℕ) {R : Bool} {i k : ℕ} where
+  pub decided-turn : i < length l → k ≡ howMany 64 (getD l i 0) → k ≡ 1 → decided (drop i l) ≡ R → decided (drop (i + 1) l) ≡ R
+  unfolding decided
+  decided-turn h e z inv = every-turn (λ w. eqb (howMany 64 w) 1) l h refl (eq-eqb _ 1 (sym e ∙ z)) inv
+
+  pub decided-stop : i < length l → k ≡ howMany 64 (getD l i 0) → (k ≡ 1 → ⊥) → decided (drop i l) ≡ R → false ≡ R
+  unfolding decided
+  decided-stop h e z inv = every-stop (λ w. eqb (howMany 64 w) 1) l h refl (ne-eqb _ 1 (λ f. z (e ∙ f))) inv
+
+pub decided-end : (l : List ℕ) {R : Bool} {i : ℕ} → length l ≤ i → decided (drop i l) ≡ R → true ≡ R
+unfolding decided
+decided-end l h inv = every-end (λ w. eqb (howMany 64 w) 1) l h inv

@@ -4,6 +4,7 @@ ghost use Rattle.run.specs.Choice.{choiceTold, choiceAsked};
 use refusals::Refusal;
 use refusals::Verdict;
 
+mod collapse;
 pub mod inner;
 mod laying;
 mod observer;
