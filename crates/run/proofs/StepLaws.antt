@@ -13,9 +13,9 @@ use lib.Dec.{eqb}
 use lib.Ieee.{Float}
 use lib.ListN.{length, getD, set, drop}
 use lib.Seq.{getD-set-same}
-use borrow.Author.Tests.{eqb-false, eq-eqb, ne-eqb}
+use borrow.Author.Tests.{eqb-false, eq-eqb, ne-eqb, lt-ltb, le-ltb}
 use Rattle.words.specs.Words.{bit, has, without, howMany, least}
-use Rattle.adjacency.specs.Weights.{weightSum}
+use Rattle.adjacency.specs.Weights.{weightSum, mask}
 use Rattle.consistency.specs.Domains.{possible, removed, Fit}
 use Rattle.consistency.specs.Worklist.{Removal, removal, State, state, remove, forbidAt, forbid, forbids, propagated}
 use Rattle.consistency.specs.Start.{failing, others}
@@ -26,8 +26,11 @@ use Rattle.grid.specs.Grid.{Grid, cells}
 use Rattle.propagation.specs.Beside.{Beside, lessened, kept, unmarked}
 use Rattle.propagation.specs.Lent.{stateOf, Lent, Room, Ground}
 use Rattle.run.specs.declared.Forbid.{Forbid}
-use Rattle.run.specs.Run.{Given, asked, reducedBy, laid, chosen, decided}
-use Rattle.run.specs.Choice.{taken}
+use Rattle.run.specs.Run.{Given, asked, reducedBy, laid, chosen, decided, still, notesOf, sighted, seen, drawn, turn, Turn, ended}
+use Rattle.run.specs.declared.inner.Observed.{Observed}
+use Rattle.run.specs.declared.inner.Observed.the-variants.{Cell, Nothing}
+use Rattle.run.specs.Observer.{notesIn, observe, Sight, sightOf}
+use Rattle.run.specs.Choice.{draw, taken}
 use Rattle.run.specs.Steps.{asking}
 use Rattle.loops.proofs.TestLaws.{every-turn, every-stop, every-end}
 use Rattle.words.proofs.BitLaws.{bit-none, bit-not, bit-below, has-true, true-has}
@@ -37,6 +40,8 @@ use Rattle.consistency.proofs.Keep.{safe-remove, safe-forbids}
 use Rattle.propagation.proofs.LentLaws.{lent-safe, lent-after, room-after}
 use Rattle.run.proofs.StateLaws.{asked-inside}
 use Rattle.run.proofs.ChoiceLaws.{taken-in}
+use Rattle.run.proofs.ObserverLaws.{valid-weight}
+use Rattle.run.proofs.TurnLaws.{sight-counts}
 
 -- ---- removals that are asked for
 
@@ -255,3 +260,46 @@ module _ (l : List ℕ) {R : Bool} {i k : ℕ} where
 pub decided-end : (l : List ℕ) {R : Bool} {i : ℕ} → length l ≤ i → decided (drop i l) ≡ R → true ≡ R
 unfolding decided
 decided-end l h inv = every-end (λ w. eqb (howMany 64 w) 1) l h inv
+
+-- ---- a turn; o is what was observed of the slices
+
+module _ (i : Given) (words : List ℕ) (used : ℕ) (s : State Beside) {n m : ℕ} {o : Observed}
+    (e : o ≡ observe (notesIn n (i .noise) (s .domains) (s .beside .floats) (s .beside .marks) m)) (all : n ≡ cells (i .grid)) (masked : m ≡ mask (i .weights)) where
+  observed-sight : sightOf o ≡ sighted i s
+  unfolding sighted notesOf
+  observed-sight = rw (e, all, masked)
+
+  cell-sight : {c : ℕ} {f : Float} → o ≡ Cell c f → sighted i s ≡ some (record { cell = c; entropy = f })
+  unfolding sightOf
+  cell-sight q = sym observed-sight ∙ ap sightOf q
+
+  -- the cell that is observed is one of the grid, and weighs something
+  pub cell-inside : {c : ℕ} {f : Float} → o ≡ Cell c f → c < length (s .domains)
+  unfolding sighted notesOf
+  cell-inside q = sight-counts (notesOf i s) _ (cell-sight q) .0
+
+  pub cell-weight : {c : ℕ} {f : Float} → o ≡ Cell c f → 0 < weightSum (i .weights) (getD (s .domains) c 0)
+  unfolding sighted notesOf
+  cell-weight {c} q = valid-weight (i .weights) (getD (notesOf i s .counts) c 0) (getD (s .domains) c 0) (sight-counts (notesOf i s) _ (cell-sight q) .1)
+
+  module _ (whole : s .empty ≡ false) where
+    turn-sight : {q : Option Sight} → sighted i s ≡ q → seen i words used s q ≡ turn i words used s
+    unfolding turn
+    turn-sight k = rw (whole, k)
+
+    pub turn-still : o ≡ Nothing → {b : Bool} → b ≡ decided (s .domains) → Turn.over (ended (cond b 0 1) used (s .domains)) ≡ turn i words used s
+    unfolding seen still sightOf
+    turn-still q d = rw d (turn-sight (sym observed-sight ∙ ap sightOf q))
+
+    pub turn-paused : {c : ℕ} {f : Float} → o ≡ Cell c f → length words ≤ used → Turn.over (ended 2 used (s .domains)) ≡ turn i words used s
+    unfolding seen drawn draw
+    turn-paused q h = (rw (le-ltb used (length words) h) at (turn-sight (cell-sight q)))
+
+    pub turn-chosen : {c : ℕ} {f : Float} {s′ : State Beside} → o ≡ Cell c f → used < length words
+        → s′ ≡ chosen i c (taken (i .weights) (getD (s .domains) c 0) (getD words used 0 % weightSum (i .weights) (getD (s .domains) c 0))) s
+        → Turn.on (used + 1) s′ ≡ turn i words used s
+    unfolding seen drawn draw
+    turn-chosen q h k = ap (Turn.on (used + 1)) k ∙ (rw (lt-ltb used (length words) h) at (turn-sight (cell-sight q)))
+
+    pub told-still : o ≡ Nothing → {b : Bool} → b ≡ decided (s .domains) → {t : Bool} → b ≡ t → Turn.over (ended (cond t 0 1) used (s .domains)) ≡ turn i words used s
+    told-still q d k = turn-still q (sym k ∙ d)
