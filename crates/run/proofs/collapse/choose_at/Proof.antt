@@ -1,13 +1,13 @@
 -- `run::collapse::choose_at` meets its contract: the pattern that is chosen is one of the table, and the others are laid aside.
 -- Assumes nothing.
 use native.Mathlib.Omega.{arith}
+use lib.ListN.{getD}
 use borrow.Author.Needs.{needs}
 use Rattle.adjacency.specs.Weights.{Bounded}
 use Rattle.adjacency.proofs.WeightLaws.{weighed-bounded}
 use Rattle.run.proofs.StepLaws.{taken-below, drawn-below, chosen-is}
 use Rattle.run.proofs.collapse.choose_at.Statement.{statement}
 use Rattle.run.proofs.collapse.choose_at.Tie as tie
-use lib.ListN.{getD}
 
 bounded : (s : tie.Start) → Bounded (s .args .weights .now) (getD (s .args .domains .now) (s .args .cell) 0)
 bounded s = weighed-bounded (s .pre .1 .1 .0 .0 .weighed) (s .pre .0 .patterns) (s .pre .0 .safe .fit .words _)

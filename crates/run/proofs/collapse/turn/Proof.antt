@@ -1,11 +1,8 @@
 -- `run::collapse::turn` meets its contract: the cell that is observed is one of the grid and weighs something, so a word chooses there.
 -- Assumes nothing.
-use mathlib.Core.Path.{_≡_, refl, sym, ap, _∙_}
+use mathlib.Core.Path.{refl}
 use native.Mathlib.Omega.{arith}
 use borrow.Author.Needs.{needs}
-use Rattle.run.proofs.StepLaws.{cell-inside, cell-weight, told-still, turn-paused, turn-chosen}
-use Rattle.run.proofs.collapse.turn.Statement.{statement}
-use Rattle.run.proofs.collapse.turn.Tie as tie
 use Rattle.adjacency.specs.Tables.{table}
 use Rattle.grid.specs.Grid.{grid}
 use Rattle.consistency.specs.Worklist.{State}
@@ -13,6 +10,9 @@ use Rattle.propagation.specs.Beside.{Beside, beside}
 use Rattle.propagation.specs.Lent.{stateOf}
 use Rattle.run.specs.Run.{Given}
 use Rattle.run.specs.Steps.{given, idle}
+use Rattle.run.proofs.StepLaws.{cell-inside, cell-weight, told-still, turn-paused, turn-chosen}
+use Rattle.run.proofs.collapse.turn.Statement.{statement}
+use Rattle.run.proofs.collapse.turn.Tie as tie
 
 -- what the turn is given, and the state that it starts from
 abbrev input : tie.Start → Given
@@ -59,9 +59,16 @@ choose-at-requires c κs =
     let saw = c .before .before .before .before .before .before .before .before .before .before in
     let s = saw .before .before .before .before .before .before .before .before .before .before .before .before .before .before in
     let (lent, (ground, (weighed, roomy, masked))) = s .pre in
-    let is = c .before .before .before .before .before .before .before .before .cell .given .1 in
-    (lent, (ground, ((record { weighed = weighed; roomy = λ p h. roomy }, masked),
-    (cell-inside (input s) (s .args .words .now) (s .args .used) (entry s) (saw .observe .ensures) (ground .all) masked is, cell-weight (input s) (s .args .words .now) (s .args .used) (entry s) (saw .observe .ensures) (ground .all) masked is))))
+    let is = c .before .before .before .before .before .before .before .before .cell .given .1 in (
+      lent,
+      (
+        ground,
+        (
+          (record { weighed = weighed; roomy = λ p h. roomy }, masked),
+          (cell-inside (input s) (s .args .words .now) (s .args .used) (entry s) (saw .observe .ensures) (ground .all) masked is, cell-weight (input s) (s .args .words .now) (s .args .used) (entry s) (saw .observe .ensures) (ground .all) masked is),
+        ),
+      ),
+    )
 
 same-length-4 : tie.Need-same-length-4
 same-length-4 c = search needs

@@ -3,10 +3,10 @@
 -- Assumes nothing.
 use mathlib.Core.List.{List, []}
 use mathlib.Core.Path.{_≡_, refl, sym, subst, _∙_}
-use Prim.Native.Nat.{ℕ, _*_, _<_}
+use Prim.Native.Nat.{ℕ}
 use native.Mathlib.Omega.{arith}
-use borrow.Author.Needs.{needs}
 use lib.ListN.{length, getD}
+use borrow.Author.Needs.{needs}
 use Rattle.words.specs.Words.{without}
 use Rattle.consistency.specs.Worklist.{forbids}
 use Rattle.consistency.specs.Start.{others}
@@ -56,10 +56,14 @@ remove-requires c κs =
     let (is, _, going) = head .loop .inv in
     let hc = s .pre .1 .1 .0 in (
       subst (λ (k : ℕ). Lent (s .args .count) k (head .loop .domains) (head .loop .counts) (head .loop .pending) (head .loop .next)) (sym (going .domains)) (going .lent),
-      ((s .pre .1 .0 .0, λ p h. omega (arith, s .pre .1 .0 .1 p h, going .floats, going .domains)),
-      (omega (arith, hc, going .domains),
-      next-below (going .lent) hc _ is (found .before .loop-test .taken) (found .next-pattern .ensures),
-      next-possible (going .lent) hc _ is (found .before .loop-test .taken) (found .next-pattern .ensures))),
+      (
+        (s .pre .1 .0 .0, λ p h. omega (arith, s .pre .1 .0 .1 p h, going .floats, going .domains)),
+        (
+          omega (arith, hc, going .domains),
+          next-below (going .lent) hc _ is (found .before .loop-test .taken) (found .next-pattern .ensures),
+          next-possible (going .lent) hc _ is (found .before .loop-test .taken) (found .next-pattern .ensures),
+        ),
+      ),
     )
 
 mul-without-pattern-2 : tie.Need-mul-without-pattern-2 Inv-loop μ-loop
