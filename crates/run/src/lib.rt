@@ -4,7 +4,9 @@ ghost use Rattle.run.specs.Choice.{choiceTold, choiceAsked};
 use refusals::Refusal;
 use refusals::Verdict;
 
+mod collapse;
 pub mod inner;
+mod laying;
 mod observer;
 
 pub struct Forbid {

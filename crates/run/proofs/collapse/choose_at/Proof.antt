@@ -1,0 +1,72 @@
+-- `run::collapse::choose_at` meets its contract: the pattern that is chosen is one of the table, and the others are laid aside.
+-- Assumes nothing.
+use native.Mathlib.Omega.{arith}
+use lib.ListN.{getD}
+use borrow.Author.Needs.{needs}
+use Rattle.adjacency.specs.Weights.{Bounded}
+use Rattle.adjacency.proofs.WeightLaws.{weighed-bounded}
+use Rattle.run.proofs.StepLaws.{taken-below, drawn-below, chosen-is}
+use Rattle.run.proofs.collapse.choose_at.Statement.{statement}
+use Rattle.run.proofs.collapse.choose_at.Tie as tie
+
+bounded : (s : tie.Start) → Bounded (s .args .weights .now) (getD (s .args .domains .now) (s .args .cell) 0)
+bounded s = weighed-bounded (s .pre .1 .1 .0 .0 .weighed) (s .pre .0 .patterns) (s .pre .0 .safe .fit .words _)
+
+mul-domain : tie.Need-mul-domain
+mul-domain c = search needs
+
+slice-read-domain : tie.Need-slice-read-domain
+slice-read-domain c = search needs
+
+weight-sum-requires : tie.Need-weight-sum-requires
+weight-sum-requires c κs = bounded (c .before .before .before .before .before .before .before .before .before .before)
+
+rem-choose : tie.Need-rem-choose
+rem-choose c = search needs
+
+choose-requires : tie.Need-choose-requires
+choose-requires c κs = let s = c .before .before .before .before .before .before .before .before .before .before .before in (bounded s, drawn-below _ (c .weight-sum .ensures) (s .pre .1 .1 .1 .1))
+
+lay-requires : tie.Need-lay-requires
+lay-requires c κs =
+    let chose = c .before .before .before .before .before in
+    let (lent, (ground, (room, (hc, _)))) = chose .before .before .before .before .before .before .before .before .before .before .before .before .pre in
+    (lent, (ground, (room, (hc, taken-below lent _ _ _ (chose .choose .ensures)))))
+
+same-length : tie.Need-same-length
+same-length c = search needs
+
+same-length-2 : tie.Need-same-length-2
+same-length-2 c = search needs
+
+same-length-3 : tie.Need-same-length-3
+same-length-3 c = search needs
+
+same-length-4 : tie.Need-same-length-4
+same-length-4 c = search needs
+
+same-length-5 : tie.Need-same-length-5
+same-length-5 c = search needs
+
+returns : tie.Need-returns
+returns c =
+    let called = c .before .before .before .before .before .before .before .before .before .before in
+    let chose = called .before .before .before .before .before .before in
+    chosen-is _ _ _ _ (chose .before .weight-sum .ensures) (chose .choose .ensures) (λ z. absurd (omega arith)) (called .lay .ensures)
+
+pub choose-at-spec : {M : Type 1} → statement M
+choose-at-spec =
+    tie.close
+    (tie.spec
+    mul-domain
+    slice-read-domain
+    weight-sum-requires
+    rem-choose
+    choose-requires
+    lay-requires
+    same-length
+    same-length-2
+    same-length-3
+    same-length-4
+    same-length-5
+    returns)

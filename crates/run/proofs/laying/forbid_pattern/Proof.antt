@@ -1,0 +1,58 @@
+-- `run::laying::forbid_pattern` meets its contract: a pattern that is gone is let be.
+-- Assumes nothing.
+use mathlib.Core.Path.{refl}
+use borrow.Author.Needs.{needs}
+use Rattle.run.proofs.StepLaws.{there, forbids-there, forbids-gone}
+use Rattle.run.proofs.laying.forbid_pattern.Statement.{statement}
+use Rattle.run.proofs.laying.forbid_pattern.Tie as tie
+
+mul-has-pattern : tie.Need-mul-has-pattern
+mul-has-pattern c = search needs
+
+slice-read-has-pattern : tie.Need-slice-read-has-pattern
+slice-read-has-pattern c = search needs
+
+has-pattern-requires : tie.Need-has-pattern-requires
+has-pattern-requires c κs = search needs
+
+remove-requires : tie.Need-remove-requires
+remove-requires c κs =
+    let test = c .before .before .before .before in
+    let (lent, (room, (hc, hp))) = test .before .before .before .before .before .before .before .before .pre in
+    (lent, (room, (hc, hp, there _ _ (test .before .has-pattern .ensures) (test .if1 .taken))))
+
+same-length : tie.Need-same-length
+same-length c = search needs
+
+same-length-2 : tie.Need-same-length-2
+same-length-2 c = search needs
+
+same-length-3 : tie.Need-same-length-3
+same-length-3 c = search needs
+
+same-length-4 : tie.Need-same-length-4
+same-length-4 c = search needs
+
+returns : tie.Need-returns
+returns c =
+    let called = c .before .before .before .before .before .before .before .before in
+    let test = called .before .before .before .before .before in
+    λ marks. forbids-there _ _ (test .before .has-pattern .ensures) _ _ _ _ refl (test .if1 .taken) (called .remove .ensures marks)
+
+returns-2 : tie.Need-returns-2
+returns-2 c = λ marks. forbids-gone _ _ (c .before .has-pattern .ensures) _ _ _ _ refl (c .if1 .left)
+
+pub forbid-pattern-spec : {M : Type 1} → statement M
+forbid-pattern-spec =
+    tie.close
+    (tie.spec
+    mul-has-pattern
+    slice-read-has-pattern
+    has-pattern-requires
+    remove-requires
+    same-length
+    same-length-2
+    same-length-3
+    same-length-4
+    returns
+    returns-2)

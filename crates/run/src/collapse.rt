@@ -1,0 +1,146 @@
+// The turns of a run: a choice at the cell that is observed, with the word that comes next, until nothing is observed, no word is left or a cell is empty.
+// Follows docs/RULES.md, "Run".
+ghost use mathlib.Core.Path.{_≡_};
+ghost use Prim.Native.Nat.{_%_, _<_};
+ghost use lib.ListN.{length, getD};
+ghost use Rattle.adjacency.specs.Tables.{table};
+ghost use Rattle.adjacency.specs.Weights.{Weighed, mask, weightSum};
+ghost use Rattle.grid.specs.Grid.{grid};
+ghost use Rattle.propagation.specs.Beside.{beside};
+ghost use Rattle.propagation.specs.Lent.{stateOf, Lent, Room, Roomy, Ground};
+ghost use Rattle.run.specs.Choice.{taken};
+ghost use Rattle.run.specs.Run as run;
+ghost use Rattle.run.specs.Steps.{given, idle, turnOf};
+use crate::inner::Observed;
+use propagation::inner::Pile;
+
+// What a turn comes to: the run is over with this end, or it goes on with one more word used.
+pub(crate) enum Step {
+    Over(u32),
+    On(Pile),
+}
+
+// Whether every cell has one pattern.
+fn decided(domains: &[u64]) -> bool
+    ensures { λ r. ⌜ r ≡ run.decided (now (domains .entry)) ⌝ }
+{
+    let mut c = 0;
+    while c < domains.len() {
+        if words::inner::count_ones(domains[c]) != 1 {
+            return false;
+        }
+        c += 1;
+    }
+    true
+}
+
+// The pattern that a word takes at a cell stays, the others go, and that is propagated.
+fn choose_at(
+    count: usize,
+    offsets: &[u32],
+    ids: &[u8],
+    weights: &[u32],
+    weighted: u64,
+    width: usize,
+    height: usize,
+    mode: usize,
+    noise: &[u32],
+    cell: usize,
+    word: u32,
+    domains: &mut [u64],
+    counts: &mut [u8],
+    pending: &mut [u32],
+    floats: &mut [f32],
+    marks: &mut [u8],
+) -> Pile
+    requires { ⌜ Lent count (length (now domains)) (now domains) (now counts) (now pending) idle ⌝ }
+    requires { ⌜ Ground (table count (now offsets) (now ids)) (grid width height mode) (length (now domains)) ⌝ }
+    requires { ⌜ Room count (length (now domains)) (now weights) (now noise) (now floats) (now marks) × (weighted ≡ mask (now weights)) ⌝ }
+    requires { ⌜ (cell < length (now domains)) × (0 < weightSum (now weights) (getD (now domains) cell 0)) ⌝ }
+    ensures { λ r. ⌜ stateOf count (now (domains .exit)) (now (counts .exit)) (now (pending .exit)) r (beside (now (floats .exit)) (now (marks .exit)))
+        ≡ run.chosen (given (table count (now (offsets .entry)) (now (ids .entry))) (now (weights .entry)) (grid width height mode) (now (noise .entry))) cell
+        (taken (now (weights .entry)) (getD (now (domains .entry)) cell 0) (word % weightSum (now (weights .entry)) (getD (now (domains .entry)) cell 0)))
+        (stateOf count (now (domains .entry)) (now (counts .entry)) (now (pending .entry)) idle (beside (now (floats .entry)) (now (marks .entry)))) ⌝ }
+{
+    let domain = domains[cell];
+    let sum = adjacency::inner::weight_sum(weights, domain);
+    let pattern = crate::inner::choose(weights, domain, word % sum);
+    crate::laying::lay(
+        count,
+        offsets,
+        ids,
+        weights,
+        weighted,
+        width,
+        height,
+        mode,
+        noise,
+        cell,
+        pattern,
+        1,
+        domains,
+        counts,
+        pending,
+        floats,
+        marks,
+    )
+}
+
+// One turn, from slices with nothing pending and no empty cell: nothing to observe, no word left, or a choice.
+fn turn(
+    count: usize,
+    offsets: &[u32],
+    ids: &[u8],
+    weights: &[u32],
+    weighted: u64,
+    width: usize,
+    height: usize,
+    mode: usize,
+    noise: &[u32],
+    words: &[u32],
+    used: usize,
+    domains: &mut [u64],
+    counts: &mut [u8],
+    pending: &mut [u32],
+    floats: &mut [f32],
+    marks: &mut [u8],
+) -> Step
+    requires { ⌜ Lent count (length (now domains)) (now domains) (now counts) (now pending) idle ⌝ }
+    requires { ⌜ Ground (table count (now offsets) (now ids)) (grid width height mode) (length (now domains)) ⌝ }
+    requires { ⌜ Weighed count (now weights) × Roomy (length (now domains)) (now noise) (now floats) (now marks) × (weighted ≡ mask (now weights)) ⌝ }
+    ensures { λ r. ⌜ turnOf r used (λ pile. stateOf count (now (domains .exit)) (now (counts .exit)) (now (pending .exit)) pile (beside (now (floats .exit)) (now (marks .exit))))
+        ≡ run.turn (given (table count (now (offsets .entry)) (now (ids .entry))) (now (weights .entry)) (grid width height mode) (now (noise .entry))) (now (words .entry)) used
+        (stateOf count (now (domains .entry)) (now (counts .entry)) (now (pending .entry)) idle (beside (now (floats .entry)) (now (marks .entry)))) ⌝ }
+{
+    match crate::inner::observe(domains.len(), noise, domains, floats, marks, weighted) {
+        Observed::Nothing => {
+            if decided(domains) {
+                return Step::Over(0);
+            }
+            Step::Over(1)
+        }
+        Observed::Cell(cell, _) => {
+            if used < words.len() {
+                return Step::On(choose_at(
+                    count,
+                    offsets,
+                    ids,
+                    weights,
+                    weighted,
+                    width,
+                    height,
+                    mode,
+                    noise,
+                    cell,
+                    words[used],
+                    domains,
+                    counts,
+                    pending,
+                    floats,
+                    marks,
+                ));
+            }
+            Step::Over(2)
+        }
+    }
+}
