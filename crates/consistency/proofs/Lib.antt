@@ -13,3 +13,6 @@ pub mod SettledLaws
 pub mod Given
 pub mod Parts
 pub mod Cases
+pub mod ForgetLaws
+pub mod FailingLaws
+pub mod WithdrawnLaws

@@ -4,3 +4,5 @@ pub mod Worklist
 pub mod Start
 pub mod Parts
 pub mod Safe
+pub mod Forget
+pub mod Withdrawn

@@ -1,3 +1,4 @@
 pub mod LoopLaws
 pub mod TestLaws
 pub mod SumLaws
+pub mod FillLaws

@@ -1,3 +1,10 @@
 pub mod BesideLaws
 pub mod LentLaws
 pub mod PropagatorLaws
+pub mod CountLaws
+pub mod GivenLaws
+pub mod CheckLaws
+pub mod SettleLaws
+pub mod OutcomeLaws
+pub mod PropagateLaws
+pub mod Cases

@@ -2,3 +2,4 @@ pub mod Supports
 pub mod Beside
 pub mod Lent
 pub mod Propagate
+pub mod Given

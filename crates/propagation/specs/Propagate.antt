@@ -13,14 +13,11 @@ use Rattle.adjacency.specs.Tables.{Table}
 use Rattle.adjacency.specs.Checks.{badCount, badOffsets, badList, disagree}
 use Rattle.grid.specs.Grid.{Grid, cells, badSize, badWrap}
 use Rattle.consistency.specs.Domains.{settledAs}
-use Rattle.consistency.specs.Worklist.{Removal, State}
+use Rattle.consistency.specs.Worklist.{State}
 use Rattle.consistency.specs.Start.{missing, reduced}
+use Rattle.consistency.specs.Forget.{nothing}
 use Rattle.propagation.specs.declared.Propagated.{Propagated}
 use Rattle.propagation.specs.declared.Propagated.the-variants.{Consistent, Contradiction, Refused}
-
--- nothing is kept beside the domains
-abbrev pub nothing : Removal → List ℕ → Unit {0} → Unit {0}
-nothing u D x = tt
 
 -- the work list, from full domains less what the starting domains lack
 unfoldable pub reducedFrom : Table → Grid → List ℕ → State (Unit {0})
@@ -30,21 +27,32 @@ reducedFrom t g D = reduced t g nothing tt (missing (t .count) 0 D)
 -- ---- refusals
 
 -- a lent slice has not its published length: 4P + 1 offsets, a word for each cell, 4P counts and P pending removals for each
-unfoldable pub badLengths : Table → Grid → List ℕ → List ℕ → List ℕ → Bool
+unfoldable pub badLengths : ℕ → List ℕ → ℕ → ℕ → ℕ → ℕ → Bool
 unfolding badOffsets
-badLengths t g domains counts pending =
-    badOffsets (t .count) (t .offsets) || not (eqb (length domains) (cells g)) || not (eqb (length counts) (cells g * t .count * 4)) || not (eqb (length pending) (cells g * t .count))
+badLengths P offsets cells domains counts pending =
+    badOffsets P offsets || not (eqb domains cells) || not (eqb counts (cells * P * 4)) || not (eqb pending (cells * P))
 
 -- some starting domain has a pattern of P or more
 unfoldable pub badDomains : ℕ → List ℕ → Bool
 unfolding every beyond
 badDomains P domains = not (every (λ w. not (beyond P w)) domains)
 
--- 3, 1, 2, 5, 6, 7, 9
-abbrev pub propagateTests : Table → Grid → List ℕ → List ℕ → List ℕ → List Test
+-- 3, 1, 2, 5, 6, 7, 9; of the work memory only the lengths matter
+abbrev pub propagateTests : Table → Grid → List ℕ → ℕ → ℕ → List Test
 propagateTests t g domains counts pending =
-    (badCount (t .count) gives BadCount) ∷ (badSize (g .width) (g .height) gives BadSize) ∷ (badWrap (g .mode) gives BadWrap) ∷ (badLengths t g domains counts pending gives BadLength)
-    ∷ (badList t gives BadList) ∷ (disagree t gives Disagree) ∷ (badDomains (t .count) domains gives BadPattern) ∷ []
+    (badCount (t .count) gives BadCount)
+    ∷ (badSize (g .width) (g .height) gives BadSize)
+    ∷ (badWrap (g .mode) gives BadWrap)
+    ∷ (badLengths (t .count) (t .offsets) (cells g) (length domains) counts pending gives BadLength)
+    ∷ (badList t gives BadList)
+    ∷ (disagree t gives Disagree)
+    ∷ (badDomains (t .count) domains gives BadPattern)
+    ∷ []
+
+-- the number of the first refusal, 0 where the domains are propagated
+unfoldable pub propagateRefusal : Table → Grid → List ℕ → ℕ → ℕ → ℕ
+unfolding firstOf badCount badSize badWrap badLengths badList disagree badDomains
+propagateRefusal t g domains counts pending = firstOf (propagateTests t g domains counts pending)
 
 -- ---- the outcome
 
@@ -73,5 +81,5 @@ outcomeAt (suc n) t g domains counts pending = outcome (refused (suc n)) domains
 
 -- what a call of `propagate` comes to
 unfoldable pub propagateOf : Table → Grid → List ℕ → List ℕ → List ℕ → Outcome
-unfolding firstOf outcomeAt
-propagateOf t g domains counts pending = outcomeAt (firstOf (propagateTests t g domains counts pending)) t g domains counts pending
+unfolding propagateRefusal outcomeAt
+propagateOf t g domains counts pending = outcomeAt (propagateRefusal t g domains (length counts) (length pending)) t g domains counts pending

@@ -14,6 +14,8 @@ ghost use Rattle.consistency.specs.Worklist as worklist;
 ghost use Rattle.propagation.specs.Beside.{beside, lessened, kept, unmarked};
 ghost use Rattle.propagation.specs.Lent.{stateOf, Lent, Room, Ground};
 
+pub mod start;
+
 // The pile of removals that are pending: its height, and whether a cell was emptied.
 pub struct Pile {
     pub top: usize,

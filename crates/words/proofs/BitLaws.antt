@@ -13,7 +13,7 @@ use lib.Bits.{bitAnd, and-step}
 use lib.Dec.{lit<, leb, eqb}
 use lib.Pow.{shr-lt, pow-lt, pow-mono, pow-pos, split}
 use borrow.Author.Tests.{eq-eqb, ne-eqb, eqb-true, leb-true, leb-false, le-leb, lt-leb}
-use Rattle.words.specs.Words.{bit, has, alone, full, beyond}
+use Rattle.words.specs.Words.{bit, has, alone, full, lacked, beyond}
 
 -- ---- by halves
 
@@ -109,6 +109,20 @@ unfolding full
 bit-full zero p h = absurd (not-suc-le-zero h)
 bit-full (suc k) zero h = bit-zero (full (suc k)) ∙ omega (arith, pow-succ' 2 k, pow-pos k)
 bit-full (suc k) (suc p) h = bit-suc (full (suc k)) p ∙ ap (λ (x : ℕ). bit x p) (half-full k) ∙ bit-full k p (le-of-suc-le-suc h)
+
+-- ---- the patterns that are not in a word
+
+pub lacked-lt : (k w : ℕ) → lacked k w < 2 ^ k
+unfolding lacked
+lacked-lt k w = omega (arith, full-lt k)
+
+pub bit-lacked : (k w p : ℕ) → w < 2 ^ k → p < k → bit (lacked k w) p ≡ 1 - bit w p
+unfolding lacked full
+bit-lacked zero w p h l = absurd (not-suc-le-zero l)
+bit-lacked (suc k) w zero h l = bit-zero (lacked (suc k) w) ∙ omega (arith, pow-succ' 2 k, bit-zero w)
+bit-lacked (suc k) w (suc p) h l =
+    let half : lacked (suc k) w / 2 ≡ lacked k (w / 2) = omega (arith, pow-succ' 2 k, h) in
+    bit-suc (lacked (suc k) w) p ∙ ap (λ (x : ℕ). bit x p) half ∙ bit-lacked k (w / 2) p (half-lt k h) (le-of-suc-le-suc l) ∙ ap (λ (b : ℕ). 1 - b) (sym (bit-suc w p))
 
 -- ---- a pattern past the count
 

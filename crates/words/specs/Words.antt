@@ -32,6 +32,11 @@ alone p = 2 ^ p
 unfoldable pub full : ℕ → ℕ
 full P = 2 ^ P - 1
 
+-- the word of those of P patterns that are not in the word
+unfoldable pub lacked : ℕ → ℕ → ℕ
+unfolding full
+lacked P w = full P - w
+
 -- the word of those patterns below k at which the test passes
 unfoldable pub gathered : ℕ → (ℕ → Bool) → ℕ
 unfolding sumTo alone

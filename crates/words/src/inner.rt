@@ -1,8 +1,8 @@
 // What the crates above do with one domain word.
 ghost use mathlib.Core.Path.{_≡_};
-ghost use Prim.Native.Nat.{_≤_, _<_};
+ghost use Prim.Native.Nat.{_^_, _≤_, _<_};
 ghost use lib.Bits.{bitAnd};
-ghost use Rattle.words.specs.Words.{has, without, joined, alone, full, beyond, howMany, least};
+ghost use Rattle.words.specs.Words.{has, without, joined, alone, full, lacked, beyond, howMany, least};
 
 // Whether pattern p is in the word.
 pub fn has_pattern(word: u64, p: usize) -> bool
@@ -50,6 +50,14 @@ pub fn full_word(count: usize) -> u64
     ensures { λ r. ⌜ r ≡ full count ⌝ }
 {
     0xffff_ffff_ffff_ffff >> (64 - count)
+}
+
+// The patterns that are not in the word, of `count`.
+pub fn lacked_patterns(word: u64, count: usize) -> u64
+    requires { ⌜ (1 ≤ count) × (count ≤ 64) × (word < 2 ^ count) ⌝ }
+    ensures { λ r. ⌜ r ≡ lacked count word ⌝ }
+{
+    full_word(count) - word
 }
 
 // Whether a pattern of `count` or more is in the word.
