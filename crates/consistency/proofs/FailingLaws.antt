@@ -1,19 +1,19 @@
 -- The patterns that fail a test, one by one: the list goes by the test's outcomes, is empty where all pass, and begins with the least that fails.
 -- Assumes nothing.
-use mathlib.Core.Path.{_≡_, refl, sym, ap, _∙_}
 use mathlib.Core.Bool.{Bool, true, false, cond, not}
 use mathlib.Core.List.{List, [], _∷_}
+use mathlib.Core.Path.{_≡_, refl, sym, ap, _∙_}
 use Prim.Native.Nat.{ℕ, zero, suc, _+_, _^_, _≤_, _<_}
 use native.Mathlib.Decide.{ℕ-discrete}
 use native.Mathlib.Omega.{arith}
 use lib.Arith.{lt-of-le-ne}
 use lib.ListN.{length}
 use Rattle.words.specs.Words.{bit, has, without, lacked, least}
+use Rattle.consistency.specs.Worklist.{Removal, removal}
+use Rattle.consistency.specs.Start.{failing}
 use Rattle.words.proofs.BitLaws.{bit-not, bit-none, bit-lacked, true-has, false-has}
 use Rattle.words.proofs.ChangeLaws.{bit-without, bit-without-other}
 use Rattle.words.proofs.LeastLaws.{least-below, least-found}
-use Rattle.consistency.specs.Worklist.{Removal, removal}
-use Rattle.consistency.specs.Start.{failing}
 
 -- ---- any tests
 

@@ -1,15 +1,15 @@
 -- The work list does not depend on what is kept beside the domains: each step, that forgotten, is the step that keeps nothing.
 -- Follows docs/RULES.md, "Propagation". Assumes nothing.
-use mathlib.Core.Path.{_≡_, refl, ap, _∙_}
 use mathlib.Core.Bool.{Bool, true, false}
 use mathlib.Core.List.{List, [], _∷_}
 use mathlib.Core.Option.{Option, none, some}
+use mathlib.Core.Path.{_≡_, refl, ap, _∙_}
 use Prim.Native.Nat.{ℕ, zero, suc, _*_}
 use lib.ListN.{getD}
 use Rattle.adjacency.specs.Tables.{Table, listOf}
 use Rattle.grid.specs.Grid.{Grid, cells, neighbour}
 use Rattle.consistency.specs.Domains.{possible}
-use Rattle.consistency.specs.Worklist.{Removal, State, state, place, remove, decrementAt, decrement, decrements, toward, forbidAt, forbid, forbids, spreadIn, spread, popped, propagate, propagated}
+use Rattle.consistency.specs.Worklist.{Removal, State, state, place, remove, decrementAt, decrement, decrements, toward, forbidAt, forbid, forbids, spreadIn, spread, propagate, propagated}
 use Rattle.consistency.specs.Start.{start, reduced}
 use Rattle.consistency.specs.Forget.{nothing, forget}
 

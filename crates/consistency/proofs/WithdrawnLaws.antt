@@ -1,8 +1,8 @@
 -- Removals that are asked for, each possible when its turn comes, leave the counts and what is pending as they do where the domains lack them already;
 -- so given starting domains stand where forbidding what they lack leads. Follows docs/RULES.md, "Propagation". Assumes nothing.
-use mathlib.Core.Path.{_≡_, refl, sym, ap, subst, _∙_}
 use mathlib.Core.Bool.{Bool, true, false, cond}
 use mathlib.Core.List.{List, [], _∷_, _++_}
+use mathlib.Core.Path.{_≡_, refl, ap, subst, _∙_}
 use Prim.Native.Nat.{ℕ, zero, suc, _+_, _*_, _≤_, _<_}
 use native.Mathlib.Omega.{arith}
 use lib.ListN.{length}
@@ -12,7 +12,7 @@ use Rattle.adjacency.specs.Accepted.{Accepted}
 use Rattle.grid.specs.Grid.{Grid, cells}
 use Rattle.consistency.specs.Domains.{possible, removed, filled, Fit, emptied}
 use Rattle.consistency.specs.Worklist.{Removal, removal, State, state, remove, forbidAt, forbid, forbids}
-use Rattle.consistency.specs.Start.{failing, missing, startCounts, start}
+use Rattle.consistency.specs.Start.{failing, missing, start}
 use Rattle.consistency.specs.Parts.{lessened}
 use Rattle.consistency.specs.Withdrawn.{Work, workOf, withdraw, withdrawn, InTurn, begun}
 use Rattle.consistency.specs.Forget.{nothing}
@@ -79,7 +79,7 @@ module _ (P : ℕ) {X : Type 0} (keep : Removal → List ℕ → X → X) where
       → workOf (forbids P keep us s) ≡ withdrawn P us (workOf s)
   unfolding forbids remove withdrawn withdraw
   forbids-withdrawn [] s i = refl
-  forbids-withdrawn (u ∷ us) s i = 
+  forbids-withdrawn (u ∷ us) s i =
       ap (λ (r : State X). workOf (forbids P keep us r)) (forbid-possible u s (i .0)) ∙ forbids-withdrawn us (remove P keep u s) (i .1)
 
 -- ---- starting domains

@@ -1,7 +1,7 @@
 -- What starting domains lack goes at once: the domains lack it already, and the support counts and what is pending follow.
 -- Follows docs/RULES.md, "Propagation". Assumes nothing.
-use mathlib.Core.Path.{_≡_}
 use mathlib.Core.List.{List, [], _∷_}
+use mathlib.Core.Path.{_≡_}
 use Prim.Native.Nat.{ℕ}
 use Rattle.consistency.specs.Domains.{possible, removed}
 use Rattle.adjacency.specs.Tables.{Table}

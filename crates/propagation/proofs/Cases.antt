@@ -1,15 +1,15 @@
 -- Computed claims on the definitions: six worked cases of the public call on Checker as one table, both sides of its limits, and the order of its refusals.
 -- Follows docs/RULES.md, "Propagation" and "Refusals". Assumes nothing.
-use mathlib.Core.Path.{_≡_, refl}
 use mathlib.Core.Bool.{Bool, true, false}
 use mathlib.Core.List.{List, [], _∷_}
+use mathlib.Core.Path.{_≡_, refl}
 use Prim.Native.Nat.{ℕ, _*_}
 use lib.ListN.{replicate}
 use Rattle.refusals.specs.Refusals.{answer}
 use Rattle.adjacency.specs.Tables.{Table, table}
 use Rattle.grid.specs.Grid.{Grid, grid, cells}
-use Rattle.consistency.proofs.Cases.{checker}
 use Rattle.propagation.specs.Propagate.{Outcome, outcome, propagateRefusal, propagateOf}
+use Rattle.consistency.proofs.Cases.{checker}
 
 -- ---- worked cases
 

@@ -1,30 +1,30 @@
 -- Laws of the refusals of starting domains: what each test that does not hold gives, and what is known where nothing is refused.
 -- Follows docs/RULES.md, "Refusals". Assumes nothing.
-use mathlib.Core.Path.{_≡_, sym, subst, _∙_}
-use mathlib.Core.Bool.{Bool, true, false, not, cond, _||_}
+use mathlib.Core.Bool.{Bool, false, not, cond, _||_}
 use mathlib.Core.List.{List}
-use Prim.Native.Nat.{ℕ, _*_, _^_, _≤_, _<_}
+use mathlib.Core.Path.{_≡_}
+use Prim.Native.Nat.{ℕ, _*_}
 use native.Mathlib.Decide.{decLt}
 use native.Mathlib.Nat.{mul-pos}
 use native.Mathlib.Omega.{arith}
-use lib.Dec.{T, eqb}
+use lib.Dec.{eqb}
 use lib.ListN.{length, getD, List·getD-eq-default}
 use lib.Pow.{pow-pos}
 use borrow.Author.Tests.{eqb-true, not-true, not-false}
 use Rattle.loops.specs.Tests.{every}
-use Rattle.loops.proofs.TestLaws.{T-true, true-T, neither, every-at}
 use Rattle.words.specs.Words.{beyond}
-use Rattle.words.proofs.BitLaws.{beyond-false}
-use Rattle.refusals.proofs.RefusalLaws.{first-passed}
 use Rattle.adjacency.specs.Tables.{Table}
 use Rattle.adjacency.specs.Checks.{badCount, badOffsets, badList, disagree}
-use Rattle.adjacency.proofs.AcceptedLaws.{counted, accepted-by}
 use Rattle.grid.specs.Grid.{Grid, cells, badSize, badWrap}
-use Rattle.grid.proofs.GridLaws.{sized-of}
 use Rattle.consistency.specs.Domains.{Fit}
 use Rattle.propagation.specs.Lent.{Ground}
 use Rattle.propagation.specs.Given.{Given}
 use Rattle.propagation.specs.Propagate.{badLengths, badDomains, propagateTests, propagateRefusal}
+use Rattle.loops.proofs.TestLaws.{T-true, true-T, neither, every-at}
+use Rattle.words.proofs.BitLaws.{beyond-false}
+use Rattle.refusals.proofs.RefusalLaws.{first-passed}
+use Rattle.adjacency.proofs.AcceptedLaws.{counted, accepted-by}
+use Rattle.grid.proofs.GridLaws.{sized-of}
 
 -- the refusal by the outcomes of its tests, for each end of `check`
 pub propagateRefusal-is : (t : Table) (g : Grid) (D : List ℕ) (counts pending : ℕ) {count size wrap lengths list agreement domains : Bool}

@@ -1,7 +1,7 @@
 -- Laws of the support counts of full domains: those of the first cell, and that every cell has the same.
 -- Follows docs/RULES.md, "Propagation". Assumes nothing.
-use mathlib.Core.Path.{_≡_, sym, ap, ap₂, _∙_}
 use mathlib.Core.List.{List}
+use mathlib.Core.Path.{_≡_, sym, ap, ap₂, _∙_}
 use Prim.Native.Nat.{ℕ, _+_, _*_, _/_, _%_, _≤_, _<_}
 use native.Mathlib.Nat.{zero-add, mod-lt, div-add-mod'}
 use native.Mathlib.Omega.{arith}
@@ -9,11 +9,11 @@ use lib.Arith.{digits-mod}
 use lib.ListN.{length, getD}
 use lib.Seq.{ext-getD}
 use Rattle.directions.specs.Directions.{opposite}
-use Rattle.directions.proofs.DirectionLaws.{opposite-below}
 use Rattle.adjacency.specs.Tables.{Table, listOf}
 use Rattle.adjacency.specs.Accepted.{Accepted}
-use Rattle.adjacency.proofs.AcceptedLaws.{list-short}
 use Rattle.consistency.specs.Start.{startCounts}
+use Rattle.directions.proofs.DirectionLaws.{opposite-below}
+use Rattle.adjacency.proofs.AcceptedLaws.{list-short}
 use Rattle.consistency.proofs.StartLaws.{length-tabulated, getD-tabulated}
 
 -- count k of the first cell: of pattern k / 4 from direction k % 4

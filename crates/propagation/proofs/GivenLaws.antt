@@ -1,34 +1,34 @@
 -- Laws of withdrawing what starting domains lack: one pattern, all that a cell lacks, and cell after cell; and of looking for an empty cell.
 -- Follows docs/RULES.md, "Propagation". Assumes nothing.
-use mathlib.Core.Path.{_≡_, refl, sym, ap, _∙_}
 use mathlib.Core.Bool.{Bool, true, false, _||_}
-use mathlib.Core.List.{List, [], _∷_}
+use mathlib.Core.List.{List, []}
+use mathlib.Core.Path.{_≡_, refl, sym, ap, _∙_}
 use Prim.Native.Nat.{ℕ, suc, _+_, _*_, _^_, _≤_, _<_}
-use native.Mathlib.Numerals.{add-one}
 use native.Mathlib.Nat.{add-zero, mul-le-mul-right}
+use native.Mathlib.Numerals.{add-one}
 use native.Mathlib.Omega.{arith}
 use lib.Dec.{eqb}
 use lib.ListN.{length, getD, set, drop, drop-of-length-le}
 use lib.Seq.{drop-cons}
 use borrow.Author.Tests.{eq-eqb, ne-eqb}
 use Rattle.words.specs.Words.{bit, has, without, lacked, least}
-use Rattle.words.proofs.BitLaws.{lacked-lt}
-use Rattle.words.proofs.ChangeLaws.{without-less}
-use Rattle.words.proofs.LeastLaws.{least-found}
 use Rattle.consistency.specs.Domains.{emptied}
 use Rattle.consistency.specs.Worklist.{Removal, removal, cleared}
 use Rattle.consistency.specs.Start.{failing, missing}
 use Rattle.consistency.specs.Withdrawn.{Work, work, withdraw, withdrawn}
-use Rattle.consistency.proofs.FailingLaws.{lacks, length-failing, patterns-lacked, patterns-none, patterns-next}
-use Rattle.consistency.proofs.WithdrawnLaws.{withdrawn-append, length-withdrawn}
 use Rattle.propagation.specs.Lent.{pendingOf}
 use Rattle.propagation.specs.Given.{Given, Spacious}
+use Rattle.words.proofs.BitLaws.{lacked-lt}
+use Rattle.words.proofs.ChangeLaws.{without-less}
+use Rattle.words.proofs.LeastLaws.{least-found}
+use Rattle.consistency.proofs.FailingLaws.{lacks, length-failing, patterns-lacked, patterns-none, patterns-next}
+use Rattle.consistency.proofs.WithdrawnLaws.{withdrawn-append, length-withdrawn}
 use Rattle.propagation.proofs.LentLaws.{pending-length, pending-push}
 
 -- ---- one pattern
 
-pub slot-small : {P cell p : ℕ} {counts : List ℕ} → Spacious P cell counts → p < P → cell * P + p < 65536
-slot-small {P} {cell} {p} S h = omega (arith, S .patterns, mul-le-mul-right P (S .near))
+pub slot-narrow : {P cell p : ℕ} {counts : List ℕ} → Spacious P cell counts → p < P → cell * P + p < 65536
+slot-narrow {P} {cell} {p} S h = omega (arith, S .patterns, mul-le-mul-right P (S .near))
 
 -- room depends on the length alone
 pub spacious-long : {P cell : ℕ} {counts counts′ : List ℕ} → Spacious P cell counts → length counts′ ≡ length counts → Spacious P cell counts′
@@ -148,8 +148,8 @@ module _ {P : ℕ} {D counts₀ pending₀ : List ℕ} where
               );
           rest =
               rw (e, add-one cell)
-                  (sym (withdrawn-append P us (missing P (suc cell) (drop (suc cell) D)) W)
-                  ∙ ap (λ (l : List ℕ). withdrawn P (missing P cell l) W) (sym (drop-cons D cell 0 h)) ∙ S .rest);
+              (sym (withdrawn-append P us (missing P (suc cell) (drop (suc cell) D)) W)
+              ∙ ap (λ (l : List ℕ). withdrawn P (missing P cell l) W) (sym (drop-cons D cell 0 h)) ∙ S .rest);
           counts-long = c ∙ S .counts-long;
           pending-long = p ∙ S .pending-long;
         }

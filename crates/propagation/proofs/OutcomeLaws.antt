@@ -1,17 +1,17 @@
 -- Laws of the outcome of a propagation of starting domains, by which way the call goes: refused, all is as it was; accepted, it is what the work list leaves.
 -- Follows docs/RULES.md, "Propagation" and "Refusals". Assumes nothing.
-use mathlib.Core.Path.{_≡_, refl, sym, ap, _∙_}
 use mathlib.Core.Bool.{Bool, true, false}
 use mathlib.Core.List.{List}
+use mathlib.Core.Path.{_≡_, refl, sym, ap, _∙_}
 use Prim.Native.Nat.{ℕ, zero, suc}
 use lib.ListN.{length}
 use Rattle.refusals.specs.declared.Refusal.{Refusal}
 use Rattle.refusals.specs.Refusals.{number, refused, answer}
-use Rattle.refusals.proofs.RefusalLaws.{number-positive}
 use Rattle.adjacency.specs.Tables.{Table}
 use Rattle.grid.specs.Grid.{Grid}
 use Rattle.propagation.specs.declared.Propagated.the-variants.{Consistent, Contradiction, Refused}
 use Rattle.propagation.specs.Propagate.{propagateRefusal, propagatedTold, outcome, outcomeAt, propagateOf}
+use Rattle.refusals.proofs.RefusalLaws.{number-positive}
 
 module _ (t : Table) (g : Grid) (D counts pending : List ℕ) where
   pub outcome-refused : (r : Refusal) → propagateRefusal t g D (length counts) (length pending) ≡ number r

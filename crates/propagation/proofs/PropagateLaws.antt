@@ -1,28 +1,27 @@
 -- What a propagation of starting domains means: it leaves their greatest consistent subset, a contradiction is an empty cell there, less never leaves more,
 -- a refusal changes nothing, and no second outcome fits. Follows docs/RULES.md, "Propagation" and "Refusals". Assumes nothing.
-use mathlib.Core.Path.{_≡_, refl, sym, ap, subst, subst₂, _∙_}
 use mathlib.Core.Bool.{Bool, true, false}
 use mathlib.Core.List.{List}
 use mathlib.Core.Option.{some}
+use mathlib.Core.Path.{_≡_, refl, sym, ap, subst, _∙_}
 use Prim.Native.Nat.{ℕ, zero, suc, _<_}
 use lib.ListN.{length, replicate}
-use Rattle.refusals.specs.declared.Refusal.{Refusal}
-use Rattle.refusals.specs.Refusals.{Asked, refused, answer, number}
-use Rattle.refusals.proofs.RefusalLaws.{number-injective}
+use Rattle.refusals.specs.Refusals.{Asked, refused, answer}
 use Rattle.adjacency.specs.Tables.{Table, inList}
 use Rattle.adjacency.specs.Accepted.{Accepted}
 use Rattle.grid.specs.Grid.{Grid, cells, neighbour}
 use Rattle.consistency.specs.Domains.{possible, Fit, Sub, emptied}
 use Rattle.consistency.specs.Consistent.{Greatest}
 use Rattle.consistency.specs.Forget.{nothing}
+use Rattle.propagation.specs.declared.Propagated.{Propagated}
+use Rattle.propagation.specs.declared.Propagated.the-variants.{Consistent, Contradiction, Refused}
+use Rattle.propagation.specs.Propagate.{reducedFrom, propagateRefusal, propagatedTold, Outcome, outcome, outcomeAt, propagateOf}
+use Rattle.refusals.proofs.RefusalLaws.{number-injective}
 use Rattle.consistency.proofs.DomainLaws.{settled-empty, settled-whole}
 use Rattle.consistency.proofs.ConsistentLaws.{one-each}
 use Rattle.consistency.proofs.Settled.{Settled}
 use Rattle.consistency.proofs.SettledLaws.{settled-contradiction, settled-written, settled-less}
 use Rattle.consistency.proofs.Given.{given-settled, greatest-exists}
-use Rattle.propagation.specs.declared.Propagated.{Propagated}
-use Rattle.propagation.specs.declared.Propagated.the-variants.{Consistent, Contradiction, Refused}
-use Rattle.propagation.specs.Propagate.{reducedFrom, propagateRefusal, propagatedTold, Outcome, outcome, outcomeAt, propagateOf}
 use Rattle.propagation.proofs.CheckLaws.{not-refused}
 use Rattle.propagation.proofs.OutcomeLaws.{outcome-accepted}
 
@@ -58,11 +57,11 @@ module _ (t : Table) (g : Grid) where
     propagate-greatest G a =
         let written = settled-written t g D (reducedFrom t g D) settled G a in
         rw (outcome-accepted t g D counts pending taken)
-            (record {
-              told = ap answer (settled-contradiction t g D (reducedFrom t g D) settled G a);
-              whole = λ e. written ∙ settled-whole G e;
-              empty = λ e. written ∙ settled-empty G e ∙ ap (λ (n : ℕ). replicate n 0) (a .fit .sized);
-            })
+        (record {
+          told = ap answer (settled-contradiction t g D (reducedFrom t g D) settled G a);
+          whole = λ e. written ∙ settled-whole G e;
+          empty = λ e. written ∙ settled-empty G e ∙ ap (λ (n : ℕ). replicate n 0) (a .fit .sized);
+        })
 
     -- so a consistent answer leaves the greatest consistent subset
     pub propagate-consistent : propagateOf t g D counts pending .told ≡ answer false → Greatest t g D (propagateOf t g D counts pending .domains)
@@ -89,7 +88,7 @@ module _ (t : Table) (g : Grid) where
   unfolding outcomeAt
   propagate-shrinks D E counts counts′ pending pending′ a b h =
       let (less, lifts) =
-          settled-less t g D E (reducedFrom t g D) (reducedFrom t g E) (settled D counts pending a) (settled E counts′ pending′ b) h
+      settled-less t g D E (reducedFrom t g D) (reducedFrom t g E) (settled D counts pending a) (settled E counts′ pending′ b) h
       in
       rw (outcome-accepted t g D counts pending a, outcome-accepted t g E counts′ pending′ b) (less, λ e. ap answer (lifts (cc)))
 

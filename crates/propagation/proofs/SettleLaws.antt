@@ -1,34 +1,32 @@
 -- Laws of propagating starting domains with nothing kept beside them: where it begins, what the work list needs there, and what it leaves.
 -- Follows docs/RULES.md, "Propagation". Assumes nothing.
-use mathlib.Core.Path.{_≡_, refl, sym, ap, subst, _∙_}
 use mathlib.Core.Bool.{Bool, true, false, true≢false}
 use mathlib.Core.List.{List, [], _∷_}
-use Prim.Native.Nat.{ℕ, zero, suc, _*_, _≤_, _<_}
+use mathlib.Core.Path.{_≡_, refl, sym, ap, subst, _∙_}
+use Prim.Native.Nat.{ℕ, zero, suc, _*_, _≤_}
 use native.Mathlib.Omega.{arith}
 use lib.Ieee.{Float}
-use lib.ListN.{length, getD, take, replicate, length-take, length-replicate, getD-replicate}
-use lib.Seq.{getD-take}
-use Rattle.loops.proofs.SumLaws.{sum-zero}
+use lib.ListN.{length, getD, take, replicate, length-replicate}
 use Rattle.words.specs.Words.{gathered}
 use Rattle.refusals.specs.Refusals.{answer}
 use Rattle.adjacency.specs.Tables.{Table}
-use Rattle.adjacency.specs.Accepted.{Accepted}
 use Rattle.adjacency.specs.Weights.{weightOf, wholeWeight, weighted, mask}
 use Rattle.grid.specs.Grid.{Grid, cells}
 use Rattle.consistency.specs.Domains.{Fit, emptied}
-use Rattle.consistency.specs.Worklist.{Removal, State, state, propagated, forbids}
-use Rattle.consistency.specs.Start.{startCounts, missing, start, reduced}
-use Rattle.consistency.specs.Withdrawn.{Work, work, withdrawn, begun}
+use Rattle.consistency.specs.Worklist.{Removal, State, state, propagated}
+use Rattle.consistency.specs.Start.{startCounts, missing, reduced}
+use Rattle.consistency.specs.Withdrawn.{work, withdrawn, begun}
 use Rattle.consistency.specs.Forget.{nothing, forget}
 use Rattle.consistency.specs.Safe.{Safe}
-use Rattle.consistency.proofs.DomainLaws.{settled-empty, settled-whole}
-use Rattle.consistency.proofs.Given.{given-settled}
-use Rattle.consistency.proofs.ForgetLaws.{forget-propagated}
-use Rattle.consistency.proofs.WithdrawnLaws.{given-start, given-safe}
 use Rattle.propagation.specs.declared.inner.Pile.{Pile}
 use Rattle.propagation.specs.Lent.{pendingOf, stateOf, Lent, Room, Ground}
 use Rattle.propagation.specs.Given.{Given, givenState}
 use Rattle.propagation.specs.Propagate.{reducedFrom, outcome, outcomeAt}
+use Rattle.loops.proofs.SumLaws.{sum-zero}
+use Rattle.consistency.proofs.DomainLaws.{settled-empty, settled-whole}
+use Rattle.consistency.proofs.Given.{given-settled}
+use Rattle.consistency.proofs.ForgetLaws.{forget-propagated}
+use Rattle.consistency.proofs.WithdrawnLaws.{given-start, given-safe}
 
 -- ---- where it begins
 

@@ -1,7 +1,7 @@
 -- Starting domains that are given: what the code needs to withdraw what they lack, and the state that it then has. Follows docs/RULES.md, "Propagation".
 -- Assumes nothing.
-use mathlib.Core.Path.{_≡_}
 use mathlib.Core.List.{List}
+use mathlib.Core.Path.{_≡_}
 use Prim.Native.Nat.{ℕ, suc, _*_, _≤_, _<_}
 use lib.ListN.{length}
 use Rattle.adjacency.specs.Tables.{Table}

@@ -71,7 +71,14 @@ pub(crate) fn check(
     if grid::inner::bad_wrap(mode) {
         return Verdict::Refused(Refusal::BadWrap);
     }
-    if bad_lengths(count, offsets, height * width, domains.len(), counts, pending) {
+    if bad_lengths(
+        count,
+        offsets,
+        height * width,
+        domains.len(),
+        counts,
+        pending,
+    ) {
         return Verdict::Refused(Refusal::BadLength);
     }
     if adjacency::inner::bad_list(count, offsets, ids) {

@@ -20,13 +20,6 @@ use words::inner::lacked_patterns;
 use words::inner::next_pattern;
 use words::inner::without_pattern;
 
-fn narrow(x: usize) -> u32
-    requires { ⌜ x < 65536 ⌝ }
-    ensures { λ r. ⌜ r ≡ x ⌝ }
-{
-    x as u32
-}
-
 // One pattern that a cell lacks: its counts are cleared, and its removal goes on the pile.
 fn withdraw(
     count: usize,
@@ -42,7 +35,7 @@ fn withdraw(
 {
     let slot = cell * count + pattern;
     crate::num_ways::clear_all_directions(counts, slot * 4);
-    pending[top] = narrow(slot);
+    pending[top] = crate::inner::narrow(slot);
 }
 
 // All that a cell lacks, upward; the new height of the pile.
@@ -70,12 +63,7 @@ fn lack_at(
 }
 
 // All that the starting domains lack, cell by cell; the height of the pile.
-fn lack(
-    count: usize,
-    domains: &[u64],
-    counts: &mut [u8],
-    pending: &mut [u32],
-) -> usize
+fn lack(count: usize, domains: &[u64], counts: &mut [u8], pending: &mut [u32]) -> usize
     requires { ⌜ Given count (now domains) (now counts) (now pending) ⌝ }
     ensures { λ r. ⌜ work (now (counts .exit)) (pendingOf count (now (pending .exit)) r)
         ≡ withdrawn count (missing count 0 (now (domains .entry))) (work (now (counts .entry)) []) ⌝ }

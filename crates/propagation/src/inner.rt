@@ -22,7 +22,7 @@ pub struct Pile {
     pub empty: bool,
 }
 
-fn narrow(x: usize) -> u32
+pub(crate) fn narrow(x: usize) -> u32
     requires { ⌜ x < 65536 ⌝ }
     ensures { λ r. ⌜ r ≡ x ⌝ }
 {

@@ -8,9 +8,9 @@ ghost use Rattle.propagation.specs.Propagate.{outcome, propagatedTold, p
 use refusals::Refusal;
 use refusals::Verdict;
 
-pub mod inner;
 mod check;
 mod given;
+pub mod inner;
 mod notes;
 mod num_ways;
 mod propagator;
@@ -54,7 +54,18 @@ pub fn propagate(
     match verdict {
         Verdict::Refused(refusal) => Propagated::Refused(refusal),
         Verdict::Accepted => {
-            if settle::settle(count, offsets, ids, width, height, mode, domains, counts, pending) {
+            let contradiction = settle::settle(
+                count,
+                offsets,
+                ids,
+                width,
+                height,
+                mode,
+                domains,
+                counts,
+                pending,
+            );
+            if contradiction {
                 return Propagated::Contradiction;
             }
             Propagated::Consistent

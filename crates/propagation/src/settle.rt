@@ -12,7 +12,7 @@ use crate::inner::start::zero_bytes;
 use crate::inner::start::zero_domains;
 use crate::inner::start::zero_pending;
 
-// Propagates starting domains; whether a cell was emptied.
+// Propagates starting domains; whether a cell was emptied. No pattern has weight, so what is lent for notes is neither read nor written.
 fn reduce(
     count: usize,
     offsets: &[u32],
@@ -72,7 +72,17 @@ pub(crate) fn settle(
         ≡ outcomeAt 0 (table count (now (offsets .entry)) (now (ids .entry))) (grid width height mode)
         (now (domains .entry)) (now (counts .entry)) (now (pending .entry)) ⌝ }
 {
-    let empty = reduce(count, offsets, ids, width, height, mode, domains, counts, pending);
+    let empty = reduce(
+        count,
+        offsets,
+        ids,
+        width,
+        height,
+        mode,
+        domains,
+        counts,
+        pending,
+    );
     zero_bytes(counts);
     zero_pending(pending);
     if empty {

@@ -4,10 +4,10 @@ use mathlib.Core.Path.{_≡_, sym, ap, _∙_}
 use lib.ListN.{length}
 use borrow.Author.Needs.{needs}
 use Rattle.refusals.specs.Refusals.{numberOf}
-use Rattle.refusals.proofs.RefusalLaws.{numberOf-accepted, numberOf-refused}
 use Rattle.adjacency.specs.Tables.{table}
 use Rattle.grid.specs.Grid.{grid}
 use Rattle.propagation.specs.Propagate.{propagateRefusal}
+use Rattle.refusals.proofs.RefusalLaws.{numberOf-accepted, numberOf-refused}
 use Rattle.propagation.proofs.CheckLaws.{not-refused}
 use Rattle.propagation.proofs.OutcomeLaws.{told-refused, told-empty, told-whole}
 use Rattle.propagation.proofs.propagate.Statement.{statement}

@@ -1,14 +1,14 @@
 -- `propagation::check::bad_domains` meets its contract. The invariant: the domains from here on are within the count exactly where all are.
 -- Assumes nothing.
-use mathlib.Core.Path.{_≡_, refl, sym, ap, _∙_}
 use mathlib.Core.Bool.{not}
+use mathlib.Core.Path.{_≡_, refl, sym, ap, _∙_}
 use Prim.Native.Nat.{_-_, _≤_}
 use native.Mathlib.Omega.{arith}
 use lib.ListN.{length, drop}
 use Rattle.loops.specs.Tests.{every}
-use Rattle.loops.proofs.TestLaws.{every-turn, every-stop, every-end}
 use Rattle.words.specs.Words.{beyond}
 use Rattle.propagation.specs.Propagate.{badDomains}
+use Rattle.loops.proofs.TestLaws.{every-turn, every-stop, every-end}
 use Rattle.propagation.proofs.check.bad_domains.Statement.{statement}
 use Rattle.propagation.proofs.check.bad_domains.Tie as tie
 

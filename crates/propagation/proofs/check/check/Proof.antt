@@ -9,11 +9,11 @@ use borrow.Author.Needs.{needs}
 use Rattle.refusals.specs.Refusals.{numberOf}
 use Rattle.adjacency.specs.Tables.{table}
 use Rattle.adjacency.specs.Checks.{badCount, badList, disagree}
+use Rattle.grid.specs.Grid.{grid, badSize, badWrap, Sized}
+use Rattle.propagation.specs.Propagate.{badLengths}
 use Rattle.adjacency.proofs.ListLaws.{listed}
 use Rattle.adjacency.proofs.AcceptedLaws.{counted, offsets-long}
-use Rattle.grid.specs.Grid.{grid, badSize, badWrap, Sized}
 use Rattle.grid.proofs.GridLaws.{sized-of}
-use Rattle.propagation.specs.Propagate.{badLengths}
 use Rattle.propagation.proofs.CheckLaws.{propagateRefusal-is, lengths-facts}
 use Rattle.propagation.proofs.check.check.Statement.{statement}
 use Rattle.propagation.proofs.check.check.Tie as tie

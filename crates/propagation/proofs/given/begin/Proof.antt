@@ -1,6 +1,5 @@
 -- `propagation::given::begin` meets its contract: full counts, less what the domains lack.
 -- Assumes nothing.
-use mathlib.Core.Path.{_≡_}
 use native.Mathlib.Nat.{mul-le-mul-right}
 use native.Mathlib.Omega.{arith}
 use borrow.Author.Needs.{needs}

@@ -3,8 +3,8 @@
 use mathlib.Core.Path.{_≡_}
 use Prim.Native.Nat.{_<_}
 use native.Mathlib.Omega.{arith}
-use borrow.Author.Needs.{needs}
 use lib.ListN.{length}
+use borrow.Author.Needs.{needs}
 use Rattle.words.specs.Words.{bit}
 use Rattle.words.proofs.ChangeLaws.{without-less}
 use Rattle.propagation.proofs.GivenLaws.{spacious-long, Lacking, lacking-start, lacking-next, lacking-low, lacking-turn, lacking-end}
@@ -59,8 +59,8 @@ loop-again c =
     let n = w .before .before .before in
     let s = n .before .before .before .before .before .before in
     rw (c .without-pattern .ensures, n .next-pattern .ensures)
-        (lacking-turn (n .before .before .loop .inv) (s .pre .0 .patterns) (n .before .loop-test .taken) (rw (n .next-pattern .ensures) at (w .withdraw .ensures))
-        (w .withdraw .kept .1 .1 .1 .0) (w .withdraw .kept .1 .1 .1 .1 .0))
+    (lacking-turn (n .before .before .loop .inv) (s .pre .0 .patterns) (n .before .loop-test .taken) (rw (n .next-pattern .ensures) at (w .withdraw .ensures))
+    (w .withdraw .kept .1 .1 .1 .0) (w .withdraw .kept .1 .1 .1 .1 .0))
 
 same-length : tie.Need-same-length Inv-loop μ-loop
 same-length c = c .before .loop .inv .counts-long

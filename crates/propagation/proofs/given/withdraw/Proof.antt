@@ -1,8 +1,7 @@
 -- `propagation::given::withdraw` meets its contract: a pattern's slot has its place among the counts, and fits a pending removal.
 -- Assumes nothing.
-use mathlib.Core.Path.{_≡_}
 use borrow.Author.Needs.{needs}
-use Rattle.propagation.proofs.GivenLaws.{slot-small, withdraw-is}
+use Rattle.propagation.proofs.GivenLaws.{slot-narrow, withdraw-is}
 use Rattle.propagation.proofs.given.withdraw.Statement.{statement}
 use Rattle.propagation.proofs.given.withdraw.Tie as tie
 
@@ -21,7 +20,7 @@ clear-all-directions-requires c κs = search needs
 narrow-requires : tie.Need-narrow-requires
 narrow-requires c κs =
     let s = c .before .before .before .before .before .before in
-    slot-small (s .pre .0) (s .pre .1)
+    slot-narrow (s .pre .0) (s .pre .1)
 
 mul-pending : tie.Need-mul-pending
 mul-pending c = search needs

@@ -1,9 +1,6 @@
 -- `propagation::settle::reduce` meets its contract: what the work list leaves, with what is kept beside the domains forgotten.
 -- Assumes nothing.
-use mathlib.Core.Path.{_≡_, sym, ap, _∙_}
-use mathlib.Core.List.{List}
-use Prim.Native.Nat.{ℕ}
-use native.Mathlib.Omega.{arith}
+use mathlib.Core.Path.{sym, ap, _∙_}
 use lib.ListN.{length, length-replicate}
 use borrow.Author.Needs.{needs}
 use Rattle.adjacency.specs.Tables.{table}

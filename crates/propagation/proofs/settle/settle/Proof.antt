@@ -1,8 +1,8 @@
 -- `propagation::settle::settle` meets its contract: what the work list left is written, or zero where a cell was emptied, and work memory is zero.
 -- Assumes nothing.
-use mathlib.Core.Path.{_≡_, ap, _∙_}
+use mathlib.Core.Path.{ap, _∙_}
 use Prim.Native.Nat.{ℕ}
-use lib.ListN.{length, replicate}
+use lib.ListN.{replicate}
 use borrow.Author.Needs.{needs}
 use Rattle.propagation.proofs.SettleLaws.{settle-empty, settle-whole}
 use Rattle.propagation.proofs.settle.settle.Statement.{statement}

@@ -1,13 +1,12 @@
 -- `propagation::inner::start::first_counts` meets its contract. The invariant: the counts before i are as long as their lists.
 -- Assumes nothing.
 use mathlib.Core.Path.{_≡_, ap, _∙_}
-use Prim.Native.Nat.{ℕ, _-_, _*_, _/_, _%_, _≤_, _<_}
+use Prim.Native.Nat.{ℕ, _-_, _*_, _/_, _≤_, _<_}
 use native.Mathlib.Omega.{arith}
 use lib.ListN.{length, getD, length-set}
-use Rattle.loops.proofs.FillLaws.{written-more}
-use Rattle.directions.specs.Directions.{opposite}
-use Rattle.directions.proofs.DirectionLaws.{opposite-below}
 use Rattle.adjacency.specs.Tables.{table, listOf}
+use Rattle.loops.proofs.FillLaws.{written-more}
+use Rattle.directions.proofs.DirectionLaws.{opposite-below}
 use Rattle.propagation.proofs.CountLaws.{firstCount, first-short}
 use Rattle.propagation.proofs.inner.start.first_counts.Statement.{statement}
 use Rattle.propagation.proofs.inner.start.first_counts.Tie as tie

@@ -50,7 +50,7 @@ loop-again c =
       omega arith,
       simp length-set (at .inv .2),
       written-more (λ k. getD (start .counts .now) (k % m) 0) (at .counts) i _ (omega arith)
-      (at .inv .3 (i - m) (omega (arith, c .before .before .before .pre)) ∙ ap (λ (x : ℕ). getD (start .counts .now) x 0) (sym (mod-eq-sub-mod (at .inv .0)))) (at .inv .3),
+          (at .inv .3 (i - m) (omega (arith, c .before .before .before .pre)) ∙ ap (λ (x : ℕ). getD (start .counts .now) x 0) (sym (mod-eq-sub-mod (at .inv .0)))) (at .inv .3),
     )
 
 same-length : tie.Need-same-length Inv-loop μ-loop

@@ -1,6 +1,5 @@
 -- `propagation::inner::start::start_counts` meets its contract: the first cell's counts, at every cell.
 -- Assumes nothing.
-use mathlib.Core.Path.{_≡_}
 use native.Mathlib.Omega.{arith}
 use borrow.Author.Needs.{needs}
 use Rattle.propagation.proofs.CountLaws.{counts-start}
