@@ -5,7 +5,8 @@ use mathlib.Core.List.{List}
 use mathlib.Core.Option.{some}
 use mathlib.Core.Path.{_≡_, refl, sym, ap, subst, _∙_}
 use Prim.Native.Nat.{ℕ, zero, suc, _<_}
-use lib.ListN.{length, replicate}
+use lib.ListN.{length, getD, replicate}
+use Rattle.words.specs.Words.{howMany}
 use Rattle.refusals.specs.Refusals.{Asked, refused, answer}
 use Rattle.adjacency.specs.Tables.{Table, inList}
 use Rattle.adjacency.specs.Accepted.{Accepted}
@@ -71,10 +72,14 @@ module _ (t : Table) (g : Grid) where
         let whole : emptied G ≡ false = cc (left .told) in
         subst (λ (E : List ℕ). Greatest t g D E) (sym (left .whole whole)) a
 
-    -- and breaks no list where a neighbour has one pattern only
-    pub propagate-solved : propagateOf t g D counts pending .told ≡ answer false → (c p d n q : ℕ) → d < 4 → neighbour g c d ≡ some n
-        → possible (propagateOf t g D counts pending .domains) c p ≡ 1 → ((r : ℕ) → possible (propagateOf t g D counts pending .domains) n r ≡ 1 → r ≡ q) → inList t p d q
-    propagate-solved e = one-each t g (propagateOf t g D counts pending .domains) (propagate-consistent e .consistent)
+    -- and breaks no list where each cell has one pattern
+    pub propagate-solved : propagateOf t g D counts pending .told ≡ answer false
+        → ((c : ℕ) → c < cells g → howMany (t .count) (getD (propagateOf t g D counts pending .domains) c 0) ≡ 1)
+        → (c p d n q : ℕ) → d < 4 → neighbour g c d ≡ some n → possible (propagateOf t g D counts pending .domains) c p ≡ 1
+        → possible (propagateOf t g D counts pending .domains) n q ≡ 1 → inList t p d q
+    propagate-solved e =
+        let a = propagate-consistent e in
+        one-each t g (propagateOf t g D counts pending .domains) (a .fit) (a .consistent)
 
     -- work memory ends as zero
     pub propagate-cleared : (propagateOf t g D counts pending .counts ≡ replicate (length counts) 0) × (propagateOf t g D counts pending .pending ≡ replicate (length pending) 0)

@@ -1,26 +1,27 @@
 -- A run as it is called: what the refusals leave, that a refusal changes nothing, and that no second outcome fits.
 -- Follows docs/RULES.md, "Run" and "Refusals". Assumes nothing.
-use mathlib.Core.Bool.{Bool, false, not, _||_}
-use mathlib.Core.List.{List, [], _∷_}
+use mathlib.Core.Bool.{Bool, true, false, not, cond, _||_}
+use mathlib.Core.List.{List, [], _∷_, _++_}
 use mathlib.Core.Path.{_≡_, refl, sym, ap, _∙_}
 use Prim.Native.Nat.{ℕ, zero, suc, _*_, _≤_, _<_}
 use native.Mathlib.Omega.{arith}
 use lib.Dec.{leb, ltb, eqb}
 use lib.ListN.{length, getD}
-use borrow.Author.Tests.{eqb-true, ltb-false, leb-false, not-false}
-use Rattle.refusals.specs.Refusals.{firstOf, Asked, refused, answer}
+use borrow.Author.Tests.{ne-eqb, eqb-true, ltb-false, leb-false, not-false}
+use Rattle.refusals.specs.declared.Refusal.{Refusal}
+use Rattle.refusals.specs.Refusals.{number, Test, firstOf, Asked, refused, answer}
 use Rattle.adjacency.specs.Tables.{Table}
-use Rattle.adjacency.specs.Checks.{badWeights, badOffsets}
+use Rattle.adjacency.specs.Checks.{badCount, badWeights, badOffsets, overWeight, badList, disagree}
 use Rattle.adjacency.specs.Lookup.{badPattern}
-use Rattle.grid.specs.Grid.{Grid, cells, badCell, Sized}
+use Rattle.grid.specs.Grid.{Grid, cells, badSize, badWrap, badCell, Sized}
 use Rattle.run.specs.declared.Forbid.{Forbid}
 use Rattle.run.specs.declared.Answer.{Answer}
 use Rattle.run.specs.declared.Answer.the-variants.{Decided, Undecided, Paused, Contradiction, Refused}
 use Rattle.run.specs.Run.{Given, runOf}
 use Rattle.run.specs.Course.{Placed, Lawful}
-use Rattle.run.specs.Called.{Memory, badMemory, badLengths, forbidTests, runTests, End, answerTold, Outcome, outcome, finished, outcomeAt, called}
+use Rattle.run.specs.Called.{Memory, Room, roomOf, badMemory, badLengths, baseTests, placeTests, forbidTests, runTests, End, answerTold, Outcome, outcome, finished, outcomeAt, called}
 use Rattle.loops.proofs.TestLaws.{neither}
-use Rattle.refusals.proofs.RefusalLaws.{named, named-number, Passed, first-passed}
+use Rattle.refusals.proofs.RefusalLaws.{named, named-number, number-positive, Passed, first-passed}
 use Rattle.adjacency.proofs.WeightLaws.{weighed}
 use Rattle.adjacency.proofs.AcceptedLaws.{accepted-by}
 use Rattle.grid.proofs.GridLaws.{sized-of, inside-of}
@@ -46,7 +47,7 @@ pub record Granted (i : Given) (fs : List Forbid) (m : Memory) : Type 0 where
 long : (m n : ℕ) → not (eqb m n) ≡ false → m ≡ n
 long m n e = eqb-true m n (not-false _ e)
 
-granted-memory : (P n : ℕ) (m : Memory) → badMemory P n m ≡ false → Roomy P n m
+granted-memory : (P n : ℕ) (m : Memory) → badMemory P n (roomOf m) ≡ false → Roomy P n m
 unfolding badMemory
 granted-memory P n m e =
     let domains = not (eqb (length (m .domains)) n) in
@@ -59,29 +60,63 @@ granted-memory P n m e =
     let (m₁, m₂) = neither domains counts b in
     record { domains = long _ _ m₁; counts = long _ _ m₂; pending = long _ _ m₃; floats = long _ _ m₄; marks = long _ _ m₅ }
 
+-- what the lengths that are not refused are
+pub lengths-granted : (P n : ℕ) (weights offsets noise : List ℕ) (forbids : ℕ) (r : Room) → badLengths P n weights offsets noise forbids r ≡ false
+    → (badWeights P weights ≡ false) × (badOffsets P offsets ≡ false) × (length noise ≡ n) × (badMemory P n r ≡ false) × (forbids ≤ 4096)
+unfolding badLengths
+lengths-granted P n weights offsets noise forbids r e =
+    let (rest, few) = neither (badWeights P weights || badOffsets P offsets || not (eqb (length noise) n) || badMemory P n r) (ltb 4096 forbids) e in
+    let (rest, room) = neither (badWeights P weights || badOffsets P offsets || not (eqb (length noise) n)) (badMemory P n r) rest in
+    let (rest, noises) = neither (badWeights P weights || badOffsets P offsets) (not (eqb (length noise) n)) rest in
+    let (each, offset) = neither (badWeights P weights) (badOffsets P offsets) rest in
+    (each, offset, long _ _ noises, room, ltb-false 4096 forbids few)
+
 passed-placed : (t : Table) (g : Grid) (fs : List Forbid) → Passed (forbidTests t g fs) → Placed (t .count) (cells g) fs
 unfolding forbidTests badPattern
 passed-placed t g [] h = tt
 passed-placed t g (f ∷ fs) h = (inside-of g (f .cell) (h .0), leb-false (t .count) (f .pattern) (h .1 .0), passed-placed t g fs (h .1 .1))
 
 pub called-granted : (i : Given) (fs : List Forbid) (m : Memory) → firstOf (runTests i fs m) ≡ 0 → Granted i fs m
-unfolding runTests badLengths badMemory
+unfolding runTests
 called-granted i fs m e =
     let (count, (size, (wrap, (lengths, (weight, (list, (agreement, placed))))))) = first-passed (runTests i fs m) e in
-    let n = cells (i .grid) in
     let P = i .table .count in
-    let (rest, few) = neither (badWeights P (i .weights) || badOffsets P (i .table .offsets) || not (eqb (length (i .noise)) n) || badMemory P n m) (ltb 4096 (length fs)) lengths in
-    let (rest, room) = neither (badWeights P (i .weights) || badOffsets P (i .table .offsets) || not (eqb (length (i .noise)) n)) (badMemory P n m) rest in
-    let (rest, noise) = neither (badWeights P (i .weights) || badOffsets P (i .table .offsets)) (not (eqb (length (i .noise)) n)) rest in
-    let (weights, offsets) = neither (badWeights P (i .weights)) (badOffsets P (i .table .offsets)) rest in
+    let (weights, offsets, noise, room, few) = lengths-granted P (cells (i .grid)) (i .weights) (i .table .offsets) (i .noise) (length fs) (roomOf m) lengths in
     record {
       lawful =
           record { accepted = accepted-by (i .table) count offsets list agreement; weighed = weighed P (i .weights) weights weight; placed = passed-placed (i .table) (i .grid) fs placed };
       sized = sized-of (i .grid) size wrap;
-      few = ltb-false 4096 (length fs) few;
-      noise = long _ _ noise;
-      memory = granted-memory P n m room;
+      few = few;
+      noise = noise;
+      memory = granted-memory P (cells (i .grid)) m room;
     }
+
+-- ---- the first refusal
+
+-- the first refusal of two lists of tests: that of the first list, or of the second where the first refuses nothing
+first-either : (b : Bool) (r : Refusal) {a : ℕ} (m n : ℕ) → a ≡ cond (eqb m 0) n m → cond b (number r) a ≡ cond (eqb (cond b (number r) m) 0) n (cond b (number r) m)
+first-either true r m n e = rw (ne-eqb (number r) 0 (number-positive r))
+first-either false r m n e = e
+
+pub first-append : (ts us : List Test) → firstOf (ts ++ us) ≡ cond (eqb (firstOf ts) 0) (firstOf us) (firstOf ts)
+unfolding firstOf
+first-append [] us = refl
+first-append (t ∷ ts) us = first-either (t .holds) (t .refusal) (firstOf ts) (firstOf us) (first-append ts us)
+
+-- the refusal by the outcomes of its tests, for each end of `check`
+pub baseTests-is : (i : Given) (forbids : ℕ) (r : Room) {count size wrap lengths weight list agreement : Bool}
+    → badCount (i .table .count) ≡ count → badSize (i .grid .width) (i .grid .height) ≡ size → badWrap (i .grid .mode) ≡ wrap
+    → badLengths (i .table .count) (cells (i .grid)) (i .weights) (i .table .offsets) (i .noise) forbids r ≡ lengths → overWeight (i .weights) ≡ weight
+    → badList (i .table) ≡ list → disagree (i .table) ≡ agreement
+    → firstOf (baseTests i forbids r) ≡ cond count 3 (cond size 1 (cond wrap 2 (cond lengths 5 (cond weight 4 (cond list 6 (cond agreement 7 0))))))
+unfolding baseTests firstOf
+baseTests-is i forbids r a b c d e f h = rw (a, b, c, d, e, f, h)
+
+-- that of one forbid, for each end of `judge`
+pub placeTests-is : (P : ℕ) (g : Grid) (c p : ℕ) {cell pattern : Bool} → badCell g c ≡ cell → badPattern P p ≡ pattern
+    → firstOf (placeTests P g c p) ≡ cond cell 8 (cond pattern 9 0)
+unfolding placeTests firstOf
+placeTests-is P g c p a b = rw (a, b)
 
 -- ---- the outcome
 

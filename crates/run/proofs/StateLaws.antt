@@ -55,7 +55,7 @@ module _ (i : Given) (A : Accepted (i .table)) where
       let r = forbids (i .table .count) (valued (i .weights)) us s in
       subst (λ (D : List ℕ). Settled (i .table) (i .grid) D (reducedBy i us s)) (forbids-lessened (i .table .count) (valued (i .weights)) us s)
       (settled (i .table) (i .grid) A (kept (i .weights) (i .noise) (cells (i .grid))) _
-      (ready-beside (i .table) (i .grid) r (unmarked (cells (i .grid)) (r .beside)) (forbids-ready (i .table) (i .grid) A (valued (i .weights)) us s h R)))
+      (ready-beside r (unmarked (cells (i .grid)) (r .beside)) (i .table) (i .grid) (forbids-ready (i .table) (i .grid) A (valued (i .weights)) us s h R)))
 
   -- ---- the start and the forbids
 

@@ -28,34 +28,56 @@ pub record Memory : Type 0 where
 abbrev pub memory : List ℕ → List ℕ → List ℕ → List Float → List ℕ → Memory
 memory domains counts pending floats marks = record { domains = domains; counts = counts; pending = pending; floats = floats; marks = marks }
 
+-- how long those are
+pub record Room : Type 0 where
+  pub domains : ℕ
+  pub counts : ℕ
+  pub pending : ℕ
+  pub floats : ℕ
+  pub marks : ℕ
+
+abbrev pub room : ℕ → ℕ → ℕ → ℕ → ℕ → Room
+room domains counts pending floats marks = record { domains = domains; counts = counts; pending = pending; floats = floats; marks = marks }
+
+abbrev pub roomOf : Memory → Room
+roomOf m = room (length (m .domains)) (length (m .counts)) (length (m .pending)) (length (m .floats)) (length (m .marks))
+
 -- ---- refusals
 
 -- of n cells and P patterns: a word for each cell, 4P counts and P pending removals for each, two floats and two marks for each
-unfoldable pub badMemory : ℕ → ℕ → Memory → Bool
-badMemory P n m =
-    not (eqb (length (m .domains)) n) || not (eqb (length (m .counts)) (n * P * 4)) || not (eqb (length (m .pending)) (n * P))
-    || not (eqb (length (m .floats)) (2 * n)) || not (eqb (length (m .marks)) (2 * n))
+unfoldable pub badMemory : ℕ → ℕ → Room → Bool
+badMemory P n r =
+    not (eqb (r .domains) n) || not (eqb (r .counts) (n * P * 4)) || not (eqb (r .pending) (n * P)) || not (eqb (r .floats) (2 * n)) || not (eqb (r .marks) (2 * n))
 
 -- a lent slice has not its published length, or there are over 4,096 forbids
-unfoldable pub badLengths : Given → ℕ → Memory → Bool
+unfoldable pub badLengths : ℕ → ℕ → List ℕ → List ℕ → List ℕ → ℕ → Room → Bool
 unfolding badWeights badOffsets badMemory
-badLengths i forbids m =
-    badWeights (i .table .count) (i .weights) || badOffsets (i .table .count) (i .table .offsets) || not (eqb (length (i .noise)) (cells (i .grid)))
-    || badMemory (i .table .count) (cells (i .grid)) m || ltb 4096 forbids
+badLengths P n weights offsets noise forbids r =
+    badWeights P weights || badOffsets P offsets || not (eqb (length noise) n) || badMemory P n r || ltb 4096 forbids
 
--- record by record, the cell before the pattern
-unfoldable pub forbidTests : Table → Grid → List Forbid → List Test
-unfolding badCell badPattern
-forbidTests t g [] = []
-forbidTests t g (f ∷ fs) = (badCell g (f .cell) gives BadCell) ∷ (badPattern (t .count) (f .pattern) gives BadPattern) ∷ forbidTests t g fs
-
--- 3, 1, 2, 5, 4, 6, 7, then the forbids
-unfoldable pub runTests : Given → List Forbid → Memory → List Test
-unfolding forbidTests badCount badSize badWrap badLengths overWeight badList disagree
-runTests i fs m =
+-- 3, 1, 2, 5, 4, 6, 7
+unfoldable pub baseTests : Given → ℕ → Room → List Test
+unfolding badCount badSize badWrap badLengths overWeight badList disagree
+baseTests i forbids r =
     (badCount (i .table .count) gives BadCount) ∷ (badSize (i .grid .width) (i .grid .height) gives BadSize) ∷ (badWrap (i .grid .mode) gives BadWrap)
-    ∷ (badLengths i (length fs) m gives BadLength) ∷ (overWeight (i .weights) gives BadWeights) ∷ (badList (i .table) gives BadList) ∷ (disagree (i .table) gives Disagree)
-    ∷ forbidTests (i .table) (i .grid) fs
+    ∷ (badLengths (i .table .count) (cells (i .grid)) (i .weights) (i .table .offsets) (i .noise) forbids r gives BadLength) ∷ (overWeight (i .weights) gives BadWeights)
+    ∷ (badList (i .table) gives BadList) ∷ (disagree (i .table) gives Disagree) ∷ []
+
+-- of one record: the cell before the pattern
+unfoldable pub placeTests : ℕ → Grid → ℕ → ℕ → List Test
+unfolding badCell badPattern
+placeTests P g c p = (badCell g c gives BadCell) ∷ (badPattern P p gives BadPattern) ∷ []
+
+-- record by record
+unfoldable pub forbidTests : Table → Grid → List Forbid → List Test
+unfolding placeTests
+forbidTests t g [] = []
+forbidTests t g (f ∷ fs) = placeTests (t .count) g (f .cell) (f .pattern) ++ forbidTests t g fs
+
+-- the forbids last
+unfoldable pub runTests : Given → List Forbid → Memory → List Test
+unfolding baseTests forbidTests
+runTests i fs m = baseTests i (length fs) (roomOf m) ++ forbidTests (i .table) (i .grid) fs
 
 -- ---- the outcome
 
@@ -81,11 +103,15 @@ pub record Outcome : Type 0 where
 abbrev pub outcome : Asked End → Memory → Outcome
 outcome told memory = record { told = told; memory = memory }
 
+-- these domains, and work memory that is zero
+unfoldable pub cleared : List ℕ → Room → Memory
+cleared domains r =
+    memory domains (replicate (r .counts) 0) (replicate (r .pending) 0) (replicate (r .floats) (ofBits binary32 0)) (replicate (r .marks) 0)
+
 -- the answer of a run, its domains, and work memory that is zero
 unfoldable pub finished : Ended → Memory → Outcome
-finished e m =
-    outcome (answer (record { end = e .end; used = e .used }))
-    (memory (e .domains) (replicate (length (m .counts)) 0) (replicate (length (m .pending)) 0) (replicate (length (m .floats)) (ofBits binary32 0)) (replicate (length (m .marks)) 0))
+unfolding cleared
+finished e m = outcome (answer (record { end = e .end; used = e .used })) (cleared (e .domains) (roomOf m))
 
 -- refused, all is as it was
 unfoldable pub outcomeAt : ℕ → Given → List Forbid → List ℕ → Memory → Outcome

@@ -4,6 +4,7 @@ ghost use Rattle.run.specs.Choice.{choiceTold, choiceAsked};
 use refusals::Refusal;
 use refusals::Verdict;
 
+mod check;
 pub mod inner;
 mod observer;
 
