@@ -7,8 +7,8 @@ ghost use Rattle.logarithms.specs.Asked.{entropyTold, entropyAsked};
 use refusals::Refusal;
 use refusals::Verdict;
 
-pub mod inner;
 mod table;
+pub mod inner;
 
 // What asking for an entropy comes to: an entropy, nothing for a domain without a weighted pattern, or the refusal.
 pub enum EntropyAnswer {

@@ -2,7 +2,8 @@
 -- Assumes nothing.
 use mathlib.Core.Bool.{Bool, true, false, not, _||_}
 use mathlib.Core.List.{List, [], _∷_, _++_}
-use Prim.Native.Nat.{ℕ, zero, suc, _+_, _*_}
+use mathlib.Core.Path.{_≡_}
+use Prim.Native.Nat.{ℕ, zero, suc, _+_, _*_, _≤_}
 use lib.Dec.{leb, ltb, eqb}
 use lib.Ieee.{Float, binary32, ofBits}
 use lib.ListN.{length, replicate}
@@ -41,6 +42,14 @@ room domains counts pending floats marks = record { domains = domains; counts = 
 
 abbrev pub roomOf : Memory → Room
 roomOf m = room (length (m .domains)) (length (m .counts)) (length (m .pending)) (length (m .floats)) (length (m .marks))
+
+-- room for what the start of a run writes
+pub record Opened (P n : ℕ) (domains counts : List ℕ) (floats : List Float) (marks : List ℕ) : Type 0 where
+  pub some : 1 ≤ n
+  pub words : length domains ≡ n
+  pub supports : length counts ≡ n * P * 4
+  pub values : length floats ≡ 2 * n
+  pub notes : length marks ≡ 2 * n
 
 -- ---- refusals
 

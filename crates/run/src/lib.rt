@@ -7,6 +7,7 @@ use refusals::Verdict;
 mod check;
 pub mod inner;
 mod observer;
+mod start;
 
 pub struct Forbid {
     pub cell: u32,

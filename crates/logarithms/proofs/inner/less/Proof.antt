@@ -56,11 +56,11 @@ loop-again c =
     let ws = a .weights .now in
     let has-is = sym (c .before .has-pattern .ensures) in
     let turn : c .if1 .value ≡ missingAt ws (a .word) (at .loop .p) (at .loop .value) =
-    ⊎-elim
-    (λ w. w .3 ∙ w .2 .ensures ∙ sym (missingAt-out ws (a .word) (at .loop .p) (at .loop .value) (has-is ∙ not-true _ (w .0 .taken))))
-    (λ w. w .1 ∙ sym (missingAt-in ws (a .word) (at .loop .p) (at .loop .value) (has-is ∙ not-false _ (w .0 .left))))
-    (c .if1 .came)
-    in
+        ⊎-elim
+            (λ w. w .3 ∙ w .2 .ensures ∙ sym (missingAt-out ws (a .word) (at .loop .p) (at .loop .value) (has-is ∙ not-true _ (w .0 .taken))))
+            (λ w. w .1 ∙ sym (missingAt-in ws (a .word) (at .loop .p) (at .loop .value) (has-is ∙ not-false _ (w .0 .left))))
+            (c .if1 .came)
+      in
     (omega arith, steps-turn (missingAt ws (a .word)) (length ws) (c .before .before .loop-test .taken) turn (at .loop .inv .1))
 
 returns : tie.Need-returns Inv-loop μ-loop

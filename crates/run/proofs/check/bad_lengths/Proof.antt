@@ -1,6 +1,6 @@
 -- `run::check::bad_lengths` meets its contract: each way out is the first length that is not as published.
 -- Assumes nothing.
-use mathlib.Core.Path.{_≡_, sym, _∙_}
+use mathlib.Core.Path.{sym, _∙_}
 use borrow.Author.Needs.{needs}
 use borrow.Author.Tests.{eq-eqb, ne-eqb}
 use Rattle.adjacency.specs.Checks.{badWeights}

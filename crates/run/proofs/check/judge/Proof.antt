@@ -1,6 +1,6 @@
 -- `run::check::judge` meets its contract: each return gives the first refusal whose test holds.
 -- Assumes nothing.
-use mathlib.Core.Path.{_≡_, refl, sym, _∙_}
+use mathlib.Core.Path.{refl, sym, _∙_}
 use borrow.Author.Needs.{needs}
 use borrow.Author.Tests.{le-leb, lt-leb}
 use Rattle.adjacency.specs.Lookup.{badPattern}

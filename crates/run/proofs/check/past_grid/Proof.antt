@@ -1,12 +1,12 @@
 -- `run::check::past_grid` meets its contract: a cell is past the grid where its row is, or where there is no column.
 -- Assumes nothing.
-use mathlib.Core.Path.{_≡_, sym, ap}
+use mathlib.Core.Path.{sym, ap}
 use Prim.Native.Nat.{ℕ, _*_}
-use native.Mathlib.Nat.{le-div-iff-mul-le}
 use native.Mathlib.Decide.{decLt}
+use native.Mathlib.Nat.{le-div-iff-mul-le}
 use native.Mathlib.Omega.{arith}
 use borrow.Author.Needs.{needs}
-use Rattle.grid.specs.Grid.{grid, cells}
+use Rattle.grid.specs.Grid.{grid}
 use Rattle.grid.proofs.GridLaws.{cell-past, cell-inside}
 use Rattle.run.proofs.check.past_grid.Statement.{statement}
 use Rattle.run.proofs.check.past_grid.Tie as tie
