@@ -3,10 +3,11 @@
 use mathlib.Core.Bool.{Bool, true, false, not, cond, _||_}
 use mathlib.Core.List.{List, [], _∷_, _++_}
 use mathlib.Core.Path.{_≡_, refl, sym, ap, _∙_}
-use Prim.Native.Nat.{ℕ, suc, _*_, _≤_}
+use Prim.Native.Nat.{ℕ, zero, suc, _*_, _≤_, _<_}
+use native.Mathlib.Omega.{arith}
 use lib.Dec.{ltb, eqb}
-use lib.ListN.{length, getD}
-use borrow.Author.Tests.{ne-eqb, eqb-true, ltb-false, leb-false, not-false}
+use lib.ListN.{length, getD, drop, drop-of-length-le}
+use borrow.Author.Tests.{eq-eqb, ne-eqb, eqb-true, ltb-false, leb-false, not-false}
 use Rattle.refusals.specs.declared.Refusal.{Refusal}
 use Rattle.refusals.specs.Refusals.{number, Test, firstOf, Asked, refused, answer}
 use Rattle.adjacency.specs.Tables.{Table}
@@ -18,7 +19,7 @@ use Rattle.run.specs.declared.Answer.{Answer}
 use Rattle.run.specs.declared.Answer.the-variants.{Decided, Undecided, Paused, Contradiction, Refused}
 use Rattle.run.specs.Run.{Given, runOf}
 use Rattle.run.specs.Course.{Placed, Lawful}
-use Rattle.run.specs.Called.{Memory, Room, roomOf, badMemory, badLengths, baseTests, placeTests, forbidTests, runTests, End, answerTold, Outcome, outcome, finished, outcomeAt, called}
+use Rattle.run.specs.Called.{Memory, Room, roomOf, badMemory, badLengths, baseTests, placeTests, forbidTests, forbidsOf, runTests, End, answerTold, Outcome, outcome, finished, outcomeAt, called}
 use Rattle.loops.proofs.TestLaws.{neither}
 use Rattle.refusals.proofs.RefusalLaws.{named, named-number, number-positive, Passed, first-passed}
 use Rattle.adjacency.proofs.WeightLaws.{weighed}
@@ -116,6 +117,42 @@ pub placeTests-is : (P : ℕ) (g : Grid) (c p : ℕ) {cell pattern : Bool} → b
     → firstOf (placeTests P g c p) ≡ cond cell 8 (cond pattern 9 0)
 unfolding placeTests firstOf
 placeTests-is P g c p a b = rw (a, b)
+
+-- ---- the forbids that are listed
+
+-- one more, the first that is left
+forbidsOf-more : (cs ps ks : List ℕ) (i : ℕ) → i < length cs → length ps ≡ length cs → length ks ≡ length cs
+    → forbidsOf (drop i cs) (drop i ps) (drop i ks)
+    ≡ record { cell = getD cs i 0; pattern = getD ps i 0; keep = getD ks i 0 } ∷ forbidsOf (drop (suc i) cs) (drop (suc i) ps) (drop (suc i) ks)
+unfolding forbidsOf
+forbidsOf-more [] ps ks i h p k = absurd (omega arith)
+forbidsOf-more (c ∷ cs) [] ks i h p k = absurd (omega arith)
+forbidsOf-more (c ∷ cs) (x ∷ ps) [] i h p k = absurd (omega arith)
+forbidsOf-more (c ∷ cs) (x ∷ ps) (y ∷ ks) zero h p k = refl
+forbidsOf-more (c ∷ cs) (x ∷ ps) (y ∷ ks) (suc i) h p k = forbidsOf-more cs ps ks i (omega arith) (omega arith) (omega arith)
+
+module _ (t : Table) (g : Grid) (cs ps ks : List ℕ) where
+  -- the first refusal of those from i on
+  abbrev pub refusalFrom : ℕ → ℕ
+  refusalFrom i = firstOf (forbidTests t g (forbidsOf (drop i cs) (drop i ps) (drop i ks)))
+
+  module _ (p : length ps ≡ length cs) (k : length ks ≡ length cs) (i : ℕ) (h : i < length cs) {n : ℕ} (e : n ≡ firstOf (placeTests (t .count) g (getD cs i 0) (getD ps i 0))) where
+    refusal-split : refusalFrom i ≡ cond (eqb n 0) (refusalFrom (suc i)) n
+    unfolding forbidTests
+    refusal-split =
+        ap (λ (fs : List Forbid). firstOf (forbidTests t g fs)) (forbidsOf-more cs ps ks i h p k)
+        ∙ first-append (placeTests (t .count) g (getD cs i 0) (getD ps i 0)) (forbidTests t g (forbidsOf (drop (suc i) cs) (drop (suc i) ps) (drop (suc i) ks)))
+        ∙ sym (ap (λ (m : ℕ). cond (eqb m 0) (refusalFrom (suc i)) m) e)
+
+    pub refusal-here : (n ≡ 0 → ⊥) → n ≡ refusalFrom i
+    refusal-here z = sym (refusal-split ∙ ap (λ (b : Bool). cond b (refusalFrom (suc i)) n) (ne-eqb n 0 z))
+
+    pub refusal-next : n ≡ 0 → refusalFrom i ≡ refusalFrom (suc i)
+    refusal-next z = refusal-split ∙ ap (λ (b : Bool). cond b (refusalFrom (suc i)) n) (eq-eqb n 0 z)
+
+  pub refusal-end : (i : ℕ) → length cs ≤ i → 0 ≡ refusalFrom i
+  unfolding forbidsOf forbidTests firstOf
+  refusal-end i h = sym (ap (λ (l : List ℕ). firstOf (forbidTests t g (forbidsOf l (drop i ps) (drop i ks)))) (drop-of-length-le cs h))
 
 -- ---- the outcome
 

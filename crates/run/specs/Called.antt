@@ -83,6 +83,13 @@ unfolding placeTests
 forbidTests t g [] = []
 forbidTests t g (f ∷ fs) = placeTests (t .count) g (f .cell) (f .pattern) ++ forbidTests t g fs
 
+-- the forbids whose cells, patterns and keeps are listed
+unfoldable pub forbidsOf : List ℕ → List ℕ → List ℕ → List Forbid
+forbidsOf [] ps ks = []
+forbidsOf (c ∷ cs) [] ks = []
+forbidsOf (c ∷ cs) (p ∷ ps) [] = []
+forbidsOf (c ∷ cs) (p ∷ ps) (k ∷ ks) = record { cell = c; pattern = p; keep = k } ∷ forbidsOf cs ps ks
+
 -- the forbids last
 unfoldable pub runTests : Given → List Forbid → Memory → List Test
 unfolding baseTests forbidTests

@@ -1,11 +1,13 @@
 // When a run is refused: all tests but the forbids', and the test of one forbid. Follows docs/RULES.md, "Refusals".
 ghost use mathlib.Core.Path.{_≡_};
+ghost use mathlib.Core.List.{List};
 ghost use Prim.Native.Nat.{ℕ, _≤_};
+ghost use lib.ListN.{length};
 ghost use Rattle.refusals.specs.Refusals.{numberOf, firstOf};
 ghost use Rattle.adjacency.specs.Tables.{table};
 ghost use Rattle.grid.specs.Grid.{grid, badCell};
 ghost use Rattle.run.specs.Run.{given};
-ghost use Rattle.run.specs.Called.{room, badMemory, badLengths, baseTests, placeTests};
+ghost use Rattle.run.specs.Called.{room, badMemory, badLengths, baseTests, placeTests, forbidTests, forbidsOf};
 use refusals::Refusal;
 use refusals::Verdict;
 
@@ -148,6 +150,29 @@ pub(crate) fn judge(cell: u32, pattern: u32, count: usize, width: usize, height:
     }
     if count <= pattern as usize {
         return 9;
+    }
+    0
+}
+
+// The number of the first refusal of forbids that are given as numbers, 0 for none.
+pub(crate) fn judge_all(
+    cells: &[u32],
+    patterns: &[u32],
+    count: usize,
+    width: usize,
+    height: usize,
+) -> u32
+    requires { ⌜ length (now patterns) ≡ length (now cells) ⌝ }
+    ensures { λ r. ⌜ ((offsets ids keeps : List ℕ) (mode : ℕ) → length keeps ≡ length (now (cells .entry))
+        → r ≡ firstOf (forbidTests (table count offsets ids) (grid width height mode) (forbidsOf (now (cells .entry)) (now (patterns .entry)) keeps))) ⌝ }
+{
+    let mut i = 0;
+    while i < cells.len() {
+        let refusal = judge(cells[i], patterns[i], count, width, height);
+        if refusal != 0 {
+            return refusal;
+        }
+        i += 1;
     }
     0
 }
