@@ -13,7 +13,7 @@ use Rattle.loops.specs.Tests.{elem}
 use Rattle.directions.specs.Directions.{opposite}
 use Rattle.adjacency.specs.Tables.{Table, listOf, inList}
 use Rattle.adjacency.specs.Weights.{Weighed}
-use Rattle.adjacency.specs.Checks.{badCount, badOffsets, badWeights, overWeight, badList, agreesAt, agrees, disagree, tableTests, tableRefusal}
+use Rattle.adjacency.specs.Checks.{badCount, offsetsMisfit, weightsMisfit, overWeight, badList, agreesAt, agrees, disagree, tableTests, tableRefusal}
 use Rattle.adjacency.specs.Accepted.{Accepted}
 use Rattle.loops.proofs.TestLaws.{T-true, true-T, neither, all-at, all-of, every-elem, every-of}
 use Rattle.directions.proofs.DirectionLaws.{opposite-below, opposite-opposite}
@@ -24,7 +24,7 @@ use Rattle.adjacency.proofs.ListLaws.{listed, listed-good, ascends-shor
 -- ---- the refusal by the outcomes of its tests, for each end of the call that gives it
 
 pub tableRefusal-is : (t : Table) (ws : List ℕ) {count length weights list agreement : Bool} → badCount (t .count) ≡ count
-    → (badWeights (t .count) ws || badOffsets (t .count) (t .offsets)) ≡ length → overWeight ws ≡ weights → badList t ≡ list → disagree t ≡ agreement
+    → (weightsMisfit (t .count) ws || offsetsMisfit (t .count) (t .offsets)) ≡ length → overWeight ws ≡ weights → badList t ≡ list → disagree t ≡ agreement
     → tableRefusal t ws ≡ cond count 3 (cond length 5 (cond weights 4 (cond list 6 (cond agreement 7 0))))
 unfolding tableRefusal
 tableRefusal-is t ws a b c d e = rw (a, b, c, d, e)
@@ -38,8 +38,8 @@ counted P e =
     let some = eqb-false P 0 none in
     (omega arith, ltb-false 64 P many)
 
-pub offsets-long : (P : ℕ) (offsets : List ℕ) → badOffsets P offsets ≡ false → length offsets ≡ 4 * P + 1
-unfolding badOffsets
+pub offsets-long : (P : ℕ) (offsets : List ℕ) → offsetsMisfit P offsets ≡ false → length offsets ≡ 4 * P + 1
+unfolding offsetsMisfit
 offsets-long P offsets e = eqb-true _ _ (not-false _ e)
 
 module _ (t : Table) where
@@ -54,7 +54,7 @@ module _ (t : Table) where
 
   -- ---- no test holds
 
-  pub accepted-by : badCount (t .count) ≡ false → badOffsets (t .count) (t .offsets) ≡ false → badList t ≡ false → disagree t ≡ false → Accepted t
+  pub accepted-by : badCount (t .count) ≡ false → offsetsMisfit (t .count) (t .offsets) ≡ false → badList t ≡ false → disagree t ≡ false → Accepted t
   accepted-by a b c d =
       let (some, few) = counted (t .count) a in
       record { some = some; few = few; listed = listed t (offsets-long (t .count) (t .offsets) b) c; agree = agreed d }
@@ -63,7 +63,7 @@ module _ (t : Table) where
   unfolding tableRefusal
   accepted-of ws e =
       let (a, (b, (c, (d, (f, _))))) = first-passed (tableTests t ws) e in
-      let (weights, offsets) = neither (badWeights (t .count) ws) (badOffsets (t .count) (t .offsets)) b in
+      let (weights, offsets) = neither (weightsMisfit (t .count) ws) (offsetsMisfit (t .count) (t .offsets)) b in
       (accepted-by a offsets d f, weighed (t .count) ws weights c)
 
 -- ---- an accepted table is not refused
@@ -72,8 +72,8 @@ pub counted-good : (P : ℕ) → 1 ≤ P → P ≤ 64 → badCount P ≡ false
 unfolding badCount
 counted-good P some few = rw (ne-eqb P 0 (λ e. omega arith), le-ltb 64 P few)
 
-pub long-good : (P : ℕ) (offsets : List ℕ) → length offsets ≡ 4 * P + 1 → badOffsets P offsets ≡ false
-unfolding badOffsets
+pub long-good : (P : ℕ) (offsets : List ℕ) → length offsets ≡ 4 * P + 1 → offsetsMisfit P offsets ≡ false
+unfolding offsetsMisfit
 long-good P offsets e = rw (eq-eqb _ _ e)
 
 module _ (t : Table) (ok : Accepted t) where
@@ -86,7 +86,7 @@ module _ (t : Table) (ok : Accepted t) where
           all-of (λ k. agreesAt t (k / 4) (k % 4)) (4 * t .count) (λ k l.
           every-of (λ q. elem (k / 4) (listOf t q (opposite (k % 4)))) (listOf t (k / 4) (k % 4)) (λ q h. ok .agree (k / 4) q (k % 4) (omega arith) (omega arith) h))
 
-  pub accepted-complete : (badCount (t .count) ≡ false) × (badOffsets (t .count) (t .offsets) ≡ false) × (badList t ≡ false) × (disagree t ≡ false)
+  pub accepted-complete : (badCount (t .count) ≡ false) × (offsetsMisfit (t .count) (t .offsets) ≡ false) × (badList t ≡ false) × (disagree t ≡ false)
   accepted-complete = (counted-good (t .count) (ok .some) (ok .few), long-good (t .count) (t .offsets) (ok .listed .laid .long), listed-good t (ok .listed), agreed-good)
 
   pub accepted-passes : (ws : List ℕ) → Weighed (t .count) ws → tableRefusal t ws ≡ 0

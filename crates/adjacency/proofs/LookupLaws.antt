@@ -11,7 +11,7 @@ use Rattle.directions.specs.Directions.{badDirection}
 use Rattle.refusals.specs.declared.Refusal.{Refusal}
 use Rattle.refusals.specs.Refusals.{number}
 use Rattle.adjacency.specs.Tables.{Table, listOf}
-use Rattle.adjacency.specs.Checks.{badCount, badOffsets, badList, disagree}
+use Rattle.adjacency.specs.Checks.{badCount, offsetsMisfit, badList, disagree}
 use Rattle.adjacency.specs.Lookup.{badPattern, listTests, listRefusal, listAnswer}
 use Rattle.adjacency.specs.Accepted.{Accepted}
 use Rattle.refusals.proofs.RefusalLaws.{first-passed, number-positive}
@@ -20,7 +20,7 @@ use Rattle.adjacency.proofs.AcceptedLaws.{accepted-by, accepted-complet
 module _ (t : Table) (p d : ℕ) where
   -- for each end of `list_refusal`
   pub listRefusal-is : {count length list agreement direction pattern : Bool} → badCount (t .count) ≡ count
-      → badOffsets (t .count) (t .offsets) ≡ length → badList t ≡ list → disagree t ≡ agreement → badDirection d ≡ direction → badPattern (t .count) p ≡ pattern
+      → offsetsMisfit (t .count) (t .offsets) ≡ length → badList t ≡ list → disagree t ≡ agreement → badDirection d ≡ direction → badPattern (t .count) p ≡ pattern
       → listRefusal t p d ≡ cond count 3 (cond length 5 (cond list 6 (cond agreement 7 (cond direction 11 (cond pattern 9 0)))))
   unfolding listRefusal
   listRefusal-is a b c e f g = rw (a, b, c, e, f, g)

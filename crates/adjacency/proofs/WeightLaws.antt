@@ -14,7 +14,7 @@ use lib.Pow.{pow-pos}
 use borrow.Author.Tests.{eqb-true, eqb-false, ltb-false, not-true, not-false, eq-eqb, ne-eqb, le-ltb}
 use Rattle.words.specs.Words.{bit, without, full}
 use Rattle.adjacency.specs.Weights.{Bounded, Weighed, weightOf, wholeWeight, weightSum, weighted, mask}
-use Rattle.adjacency.specs.Checks.{badWeights, overWeight}
+use Rattle.adjacency.specs.Checks.{weightsMisfit, overWeight}
 use Rattle.loops.proofs.SumLaws.{sum-ext, sum-mono, sum-at, sum-zero, sum-le}
 use Rattle.words.proofs.BitLaws.{bit-lt, bit-none, bit-not, bit-full, bit-below, both-shared, shared-both, word-ext}
 use Rattle.words.proofs.ChangeLaws.{bit-without, bit-without-other, gathered-lt, bit-gathered}
@@ -131,12 +131,12 @@ module _ (ws : List ℕ) where
 
 -- ---- what the check of weights gives
 
-pub weighed : (P : ℕ) (ws : List ℕ) → badWeights P ws ≡ false → overWeight ws ≡ false → Weighed P ws
-unfolding badWeights overWeight
+pub weighed : (P : ℕ) (ws : List ℕ) → weightsMisfit P ws ≡ false → overWeight ws ≡ false → Weighed P ws
+unfolding weightsMisfit overWeight
 weighed P ws a b = record { one-each = eqb-true _ _ (not-false _ a); light = ltb-false _ _ b }
 
-pub weighed-good : {P : ℕ} {ws : List ℕ} → Weighed P ws → (badWeights P ws ≡ false) × (overWeight ws ≡ false)
-unfolding badWeights overWeight
+pub weighed-good : {P : ℕ} {ws : List ℕ} → Weighed P ws → (weightsMisfit P ws ≡ false) × (overWeight ws ≡ false)
+unfolding weightsMisfit overWeight
 weighed-good {P} {ws} h = (ap not (eq-eqb _ _ (h .one-each)), le-ltb _ _ (h .light))
 
 pub weighed-bounded : {P w : ℕ} {ws : List ℕ} → Weighed P ws → P ≤ 64 → w < 2 ^ P → Bounded ws w

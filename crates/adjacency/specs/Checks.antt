@@ -17,12 +17,12 @@ unfoldable pub badCount : ℕ → Bool
 badCount P = eqb P 0 || ltb 64 P
 
 -- the offsets are not 4P + 1
-unfoldable pub badOffsets : ℕ → List ℕ → Bool
-badOffsets P offsets = not (eqb (length offsets) (4 * P + 1))
+unfoldable pub offsetsMisfit : ℕ → List ℕ → Bool
+offsetsMisfit P offsets = not (eqb (length offsets) (4 * P + 1))
 
 -- the weights are not P
-unfoldable pub badWeights : ℕ → List ℕ → Bool
-badWeights P weights = not (eqb (length weights) P)
+unfoldable pub weightsMisfit : ℕ → List ℕ → Bool
+weightsMisfit P weights = not (eqb (length weights) P)
 
 -- the sum of the weights is over 1,024
 unfoldable pub overWeight : List ℕ → Bool
@@ -80,14 +80,19 @@ unfoldable pub disagree : Table → Bool
 unfolding agrees
 disagree t = not (agrees t)
 
--- ---- the check of a table: 3, 5, 4, 6, 7
+-- ---- the check of a table
 
+-- its tests in their order: 3, 5, 4, 6, 7
 abbrev pub tableTests : Table → List ℕ → List Test
 tableTests t weights =
-    (badCount (t .count) gives BadCount) ∷ (badWeights (t .count) weights || badOffsets (t .count) (t .offsets) gives BadLength) ∷ (overWeight weights gives BadWeights)
-    ∷ (badList t gives BadList) ∷ (disagree t gives Disagree) ∷ []
+    (badCount (t .count) gives BadCount)
+    ∷ (weightsMisfit (t .count) weights || offsetsMisfit (t .count) (t .offsets) gives BadLength)
+    ∷ (overWeight weights gives BadWeights)
+    ∷ (badList t gives BadList)
+    ∷ (disagree t gives Disagree)
+    ∷ []
 
 -- the number of the first refusal of a table with its weights, 0 where it is accepted
 unfoldable pub tableRefusal : Table → List ℕ → ℕ
-unfolding firstOf badCount badWeights badOffsets overWeight badList disagree
+unfolding firstOf badCount weightsMisfit offsetsMisfit overWeight badList disagree
 tableRefusal t weights = firstOf (tableTests t weights)

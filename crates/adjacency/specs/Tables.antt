@@ -6,11 +6,13 @@ use lib.Dec.{T}
 use lib.ListN.{getD, take, drop}
 use Rattle.loops.specs.Tests.{elem}
 
+-- a table as it is lent, accepted or not
 pub record Table : Type 0 where
   pub count : ℕ
   pub offsets : List ℕ
   pub ids : List ℕ
 
+-- the table of a count, offsets and ids
 abbrev pub table : ℕ → List ℕ → List ℕ → Table
 table count offsets ids = record { count = count; offsets = offsets; ids = ids }
 

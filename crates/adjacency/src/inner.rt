@@ -5,7 +5,7 @@ ghost use lib.ListN.{length};
 ghost use Rattle.loops.specs.Tests.{allTo, elem};
 ghost use Rattle.adjacency.specs.Tables.{table, listAt, listOf};
 ghost use Rattle.adjacency.specs.Weights.{Bounded, weightOf, weightSum, mask};
-ghost use Rattle.adjacency.specs.Checks.{badCount, badOffsets, overWeight, risesAt, offsetsOk, listOk, listsOk, badList, agreesAt, disagree};
+ghost use Rattle.adjacency.specs.Checks.{badCount, offsetsMisfit, overWeight, risesAt, offsetsOk, listOk, listsOk, badList, agreesAt, disagree};
 ghost use Rattle.adjacency.specs.Accepted.{Laid, Listed};
 
 // The weight of pattern p.
@@ -123,7 +123,7 @@ fn in_list(x: usize, list: &[u8]) -> bool
 // Whether the offsets are not 4P + 1.
 pub fn bad_offsets(count: usize, offsets: &[u32]) -> bool
     requires { ⌜ count ≤ 64 ⌝ }
-    ensures { λ r. ⌜ r ≡ badOffsets count (now (offsets .entry)) ⌝ }
+    ensures { λ r. ⌜ r ≡ offsetsMisfit count (now (offsets .entry)) ⌝ }
 {
     offsets.len() != 4 * count + 1
 }

@@ -5,7 +5,7 @@ use mathlib.Core.List.{List, [], _∷_}
 use mathlib.Core.Path.{_≡_, refl}
 use Prim.Native.Nat.{ℕ}
 use Rattle.adjacency.specs.Tables.{Table, table}
-use Rattle.adjacency.specs.Checks.{badCount, badOffsets, badList, disagree}
+use Rattle.adjacency.specs.Checks.{badCount, offsetsMisfit, badList, disagree}
 use Rattle.adjacency.specs.Accepted.{Accepted}
 use Rattle.grid.specs.Grid.{Grid, grid}
 use Rattle.consistency.specs.Domains.{settledAs}
@@ -17,7 +17,7 @@ abbrev pub checker : Table
 checker = table 2 (0 ∷ 1 ∷ 2 ∷ 3 ∷ 4 ∷ 5 ∷ 6 ∷ 7 ∷ 8 ∷ []) (1 ∷ 1 ∷ 1 ∷ 1 ∷ 0 ∷ 0 ∷ 0 ∷ 0 ∷ [])
 
 pub checker-accepted : Accepted checker
-unfolding badCount badOffsets badList disagree
+unfolding badCount offsetsMisfit badList disagree
 checker-accepted = accepted-by checker refl refl refl refl
 
 -- a grid, the removals asked for, the domains that are written and whether they are contradicted
@@ -47,7 +47,6 @@ cases =
     ∷ case (grid 2 1 0) (others 2 1 0) (2 ∷ 1 ∷ []) false  -- A to the west
     ∷ case (grid 1 2 0) keep0 (1 ∷ 2 ∷ []) false  -- A to the south
     ∷ case (grid 1 2 0) (others 2 1 0) (2 ∷ 1 ∷ []) false  -- A to the north
-    ∷ case (grid 2 1 1) keep0 (1 ∷ 2 ∷ []) false  -- two columns joined: East and West both hold
     ∷ []
 
 -- propagated, with the removals kept beside, the last one first
@@ -62,9 +61,23 @@ Hold (k ∷ ks) = (settledAs ((ran (k .on) (k .asked)) .domains) ≡ k .domains)
 
 pub cases-hold : Hold cases
 unfolding Hold cases
-cases-hold = (refl, refl, (refl, refl, (refl, refl, (refl, refl, (refl, refl, (refl, refl, (refl, refl, (refl, refl, (refl, refl, (refl, refl, tt))))))))))
+cases-hold = (refl, refl, (refl, refl, (refl, refl, (refl, refl, (refl, refl, (refl, refl, (refl, refl, (refl, refl, (refl, refl, tt)))))))))
 
 -- the order is seen: in B pattern 1 goes at cell 0, then 0 at cell 1, then 1 at cell 2
 pub order-of-B : (ran (grid 3 1 0) keep0) .beside ≡ removal 2 1 ∷ removal 1 0 ∷ removal 0 1 ∷ []
 unfolding ran keep0
 order-of-B = refl
+
+-- "Slope": to the east of 0 may stand 0 and 1, to the east of 1 only 1
+abbrev pub slope : Table
+slope = table 2 (0 ∷ 1 ∷ 3 ∷ 4 ∷ 5 ∷ 6 ∷ 7 ∷ 8 ∷ 10 ∷ []) (0 ∷ 0 ∷ 1 ∷ 0 ∷ 0 ∷ 1 ∷ 1 ∷ 1 ∷ 0 ∷ 1 ∷ [])
+
+-- what is left on two joined columns without the pattern p in the first
+abbrev pub joinedColumns : ℕ → List ℕ
+unfolding reduced settledAs
+joinedColumns p = settledAs ((reduced slope (grid 2 1 1) {X = List Removal} (λ u D log. log) [] (removal 0 p ∷ [])) .domains)
+
+-- at width 2 wrapped, East and West are two constraints: each alone would leave both patterns in the second column
+pub east-and-west : (joinedColumns 1 ≡ 1 ∷ 1 ∷ []) × (joinedColumns 0 ≡ 2 ∷ 2 ∷ [])
+unfolding joinedColumns
+east-and-west = (refl, refl)

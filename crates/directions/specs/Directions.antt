@@ -28,9 +28,11 @@ stepsX = stay ∷ on ∷ stay ∷ back ∷ []
 abbrev pub stepsY : List ℤ
 stepsY = back ∷ stay ∷ on ∷ stay ∷ []
 
+-- the direction that leads back
 unfoldable pub opposite : ℕ → ℕ
 opposite d = getD opposites d 0
 
+-- what a step in a direction adds to the column, and to the row
 unfoldable pub stepX : ℕ → ℤ
 stepX d = getD stepsX d stay
 

@@ -7,7 +7,7 @@ use lib.Ieee.{Float}
 use Rattle.words.specs.Words.{beyond}
 use Rattle.refusals.specs.declared.Refusal.the-variants.{BadCount, BadWeights, BadLength, BadPattern}
 use Rattle.refusals.specs.Refusals.{Test, _gives_, Asked, refused, answer, number, firstOf, checked}
-use Rattle.adjacency.specs.Checks.{badCount, badWeights, overWeight}
+use Rattle.adjacency.specs.Checks.{badCount, weightsMisfit, overWeight}
 use Rattle.logarithms.specs.Entropy.{entropyOf}
 use Rattle.logarithms.specs.declared.EntropyAnswer.{EntropyAnswer}
 use Rattle.logarithms.specs.declared.EntropyAnswer.the-variants.{Entropy, Nothing, Refused}
@@ -15,7 +15,7 @@ use Rattle.logarithms.specs.declared.EntropyAnswer.the-variants.{Entropy
 -- the tests of a domain that is asked about: 3, 5, 4, 9
 abbrev pub domainTests : ℕ → List ℕ → ℕ → List Test
 domainTests P weights w =
-    (badCount P gives BadCount) ∷ (badWeights P weights gives BadLength) ∷ (overWeight weights gives BadWeights) ∷ (beyond P w gives BadPattern) ∷ []
+    (badCount P gives BadCount) ∷ (weightsMisfit P weights gives BadLength) ∷ (overWeight weights gives BadWeights) ∷ (beyond P w gives BadPattern) ∷ []
 
 -- the number of the first refusal, 0 where the domain may be asked about
 unfoldable pub domainRefusal : ℕ → List ℕ → ℕ → ℕ
@@ -24,7 +24,7 @@ domainRefusal P weights w = firstOf (domainTests P weights w)
 
 -- the entropy, where nothing is refused
 unfoldable pub entropyAsked : ℕ → List ℕ → ℕ → Asked (Option Float)
-unfolding checked badCount badWeights overWeight beyond entropyOf
+unfolding checked badCount weightsMisfit overWeight beyond entropyOf
 entropyAsked P weights w = checked (domainTests P weights w) (entropyOf weights w)
 
 -- the number or the entropy that an answer tells

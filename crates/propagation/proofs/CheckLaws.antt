@@ -14,7 +14,7 @@ use borrow.Author.Tests.{eqb-true, not-true, not-false}
 use Rattle.loops.specs.Tests.{every}
 use Rattle.words.specs.Words.{beyond}
 use Rattle.adjacency.specs.Tables.{Table}
-use Rattle.adjacency.specs.Checks.{badCount, badOffsets, badList, disagree}
+use Rattle.adjacency.specs.Checks.{badCount, offsetsMisfit, badList, disagree}
 use Rattle.grid.specs.Grid.{Grid, cells, badSize, badWrap}
 use Rattle.consistency.specs.Domains.{Fit}
 use Rattle.propagation.specs.Lent.{Ground}
@@ -37,12 +37,12 @@ propagateRefusal-is t g D counts pending a b c d e f h = rw (a, b, c, d, e, f, h
 -- ---- each test that does not hold
 
 pub lengths-facts : (P : ℕ) (offsets : List ℕ) (cells domains counts pending : ℕ) → badLengths P offsets cells domains counts pending ≡ false
-    → (badOffsets P offsets ≡ false) × (domains ≡ cells) × (counts ≡ cells * P * 4) × (pending ≡ cells * P)
+    → (offsetsMisfit P offsets ≡ false) × (domains ≡ cells) × (counts ≡ cells * P * 4) × (pending ≡ cells * P)
 unfolding badLengths
 lengths-facts P offsets cells domains counts pending e =
-    let (rest, tall) = neither (badOffsets P offsets || not (eqb domains cells) || not (eqb counts (cells * P * 4))) (not (eqb pending (cells * P))) e in
-    let (more, counted) = neither (badOffsets P offsets || not (eqb domains cells)) (not (eqb counts (cells * P * 4))) rest in
-    let (long, all) = neither (badOffsets P offsets) (not (eqb domains cells)) more in
+    let (rest, tall) = neither (offsetsMisfit P offsets || not (eqb domains cells) || not (eqb counts (cells * P * 4))) (not (eqb pending (cells * P))) e in
+    let (more, counted) = neither (offsetsMisfit P offsets || not (eqb domains cells)) (not (eqb counts (cells * P * 4))) rest in
+    let (long, all) = neither (offsetsMisfit P offsets) (not (eqb domains cells)) more in
     (long, eqb-true _ _ (not-false _ all), eqb-true _ _ (not-false _ counted), eqb-true _ _ (not-false _ tall))
 
 pub domains-fit : (P : ℕ) (D : List ℕ) → badDomains P D ≡ false → Fit P (length D) D

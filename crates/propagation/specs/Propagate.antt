@@ -10,7 +10,7 @@ use Rattle.words.specs.Words.{beyond}
 use Rattle.refusals.specs.declared.Refusal.the-variants.{BadSize, BadWrap, BadCount, BadLength, BadList, Disagree, BadPattern}
 use Rattle.refusals.specs.Refusals.{Test, _gives_, firstOf, Asked, refused, answer, number}
 use Rattle.adjacency.specs.Tables.{Table}
-use Rattle.adjacency.specs.Checks.{badCount, badOffsets, badList, disagree}
+use Rattle.adjacency.specs.Checks.{badCount, offsetsMisfit, badList, disagree}
 use Rattle.grid.specs.Grid.{Grid, cells, badSize, badWrap}
 use Rattle.consistency.specs.Domains.{settledAs}
 use Rattle.consistency.specs.Worklist.{State}
@@ -28,9 +28,9 @@ reducedFrom t g D = reduced t g nothing tt (missing (t .count) 0 D)
 
 -- a lent slice has not its published length: 4P + 1 offsets, a word for each cell, 4P counts and P pending removals for each
 unfoldable pub badLengths : ℕ → List ℕ → ℕ → ℕ → ℕ → ℕ → Bool
-unfolding badOffsets
+unfolding offsetsMisfit
 badLengths P offsets cells domains counts pending =
-    badOffsets P offsets || not (eqb domains cells) || not (eqb counts (cells * P * 4)) || not (eqb pending (cells * P))
+    offsetsMisfit P offsets || not (eqb domains cells) || not (eqb counts (cells * P * 4)) || not (eqb pending (cells * P))
 
 -- some starting domain has a pattern of P or more
 unfoldable pub badDomains : ℕ → List ℕ → Bool

@@ -1,25 +1,27 @@
 -- A run as it is called: what the refusals leave, that a refusal changes nothing, and that no second outcome fits.
 -- Follows docs/RULES.md, "Run" and "Refusals". Assumes nothing.
-use mathlib.Core.Bool.{false, not, _||_}
-use mathlib.Core.List.{List, [], _∷_}
+use mathlib.Core.Bool.{Bool, true, false, not, cond, _||_}
+use mathlib.Core.List.{List, [], _∷_, _++_}
 use mathlib.Core.Path.{_≡_, refl, sym, ap, _∙_}
-use Prim.Native.Nat.{ℕ, suc, _*_, _≤_}
+use Prim.Native.Nat.{ℕ, zero, suc, _*_, _≤_, _<_}
+use native.Mathlib.Omega.{arith}
 use lib.Dec.{ltb, eqb}
-use lib.ListN.{length, getD}
-use borrow.Author.Tests.{eqb-true, ltb-false, leb-false, not-false}
-use Rattle.refusals.specs.Refusals.{firstOf, Asked, refused, answer}
+use lib.ListN.{length, getD, drop, drop-of-length-le}
+use borrow.Author.Tests.{eq-eqb, ne-eqb, eqb-true, ltb-false, leb-false, not-false}
+use Rattle.refusals.specs.declared.Refusal.{Refusal}
+use Rattle.refusals.specs.Refusals.{number, Test, firstOf, Asked, refused, answer}
 use Rattle.adjacency.specs.Tables.{Table}
-use Rattle.adjacency.specs.Checks.{badWeights, badOffsets}
+use Rattle.adjacency.specs.Checks.{badCount, weightsMisfit, offsetsMisfit, overWeight, badList, disagree}
 use Rattle.adjacency.specs.Lookup.{badPattern}
-use Rattle.grid.specs.Grid.{Grid, cells, Sized}
+use Rattle.grid.specs.Grid.{Grid, cells, badSize, badWrap, badCell, Sized}
 use Rattle.run.specs.declared.Forbid.{Forbid}
 use Rattle.run.specs.declared.Answer.{Answer}
 use Rattle.run.specs.declared.Answer.the-variants.{Decided, Undecided, Paused, Contradiction, Refused}
 use Rattle.run.specs.Run.{Given, runOf}
 use Rattle.run.specs.Course.{Placed, Lawful}
-use Rattle.run.specs.Called.{Memory, badMemory, badLengths, forbidTests, runTests, End, answerTold, Outcome, outcome, finished, outcomeAt, called}
+use Rattle.run.specs.Called.{Memory, Room, roomOf, badMemory, badLengths, baseTests, placeTests, forbidTests, forbidsOf, runTests, End, answerTold, Outcome, outcome, finished, outcomeAt, called}
 use Rattle.loops.proofs.TestLaws.{neither}
-use Rattle.refusals.proofs.RefusalLaws.{named, named-number, Passed, first-passed}
+use Rattle.refusals.proofs.RefusalLaws.{named, named-number, number-positive, Passed, first-passed}
 use Rattle.adjacency.proofs.WeightLaws.{weighed}
 use Rattle.adjacency.proofs.AcceptedLaws.{accepted-by}
 use Rattle.grid.proofs.GridLaws.{sized-of, inside-of}
@@ -46,7 +48,7 @@ pub record Granted (i : Given) (fs : List Forbid) (m : Memory) : Type 0 where
 long : (m n : ℕ) → not (eqb m n) ≡ false → m ≡ n
 long m n e = eqb-true m n (not-false _ e)
 
-granted-memory : (P n : ℕ) (m : Memory) → badMemory P n m ≡ false → Measured P n m
+granted-memory : (P n : ℕ) (m : Memory) → badMemory P n (roomOf m) ≡ false → Measured P n m
 unfolding badMemory
 granted-memory P n m e =
     let domains = not (eqb (length (m .domains)) n) in
@@ -59,6 +61,17 @@ granted-memory P n m e =
     let (m₁, m₂) = neither domains counts b in
     record { domains = long _ _ m₁; counts = long _ _ m₂; pending = long _ _ m₃; floats = long _ _ m₄; marks = long _ _ m₅ }
 
+-- what the lengths that are not refused are
+pub lengths-granted : (P n : ℕ) (weights offsets noise : List ℕ) (forbids : ℕ) (r : Room) → badLengths P n weights offsets noise forbids r ≡ false
+    → (weightsMisfit P weights ≡ false) × (offsetsMisfit P offsets ≡ false) × (length noise ≡ n) × (badMemory P n r ≡ false) × (forbids ≤ 4096)
+unfolding badLengths
+lengths-granted P n weights offsets noise forbids r e =
+    let (rest, few) = neither (weightsMisfit P weights || offsetsMisfit P offsets || not (eqb (length noise) n) || badMemory P n r) (ltb 4096 forbids) e in
+    let (rest, room) = neither (weightsMisfit P weights || offsetsMisfit P offsets || not (eqb (length noise) n)) (badMemory P n r) rest in
+    let (rest, noises) = neither (weightsMisfit P weights || offsetsMisfit P offsets) (not (eqb (length noise) n)) rest in
+    let (each, offset) = neither (weightsMisfit P weights) (offsetsMisfit P offsets) rest in
+    (each, offset, long _ _ noises, room, ltb-false 4096 forbids few)
+
 passed-placed : (t : Table) (g : Grid) (fs : List Forbid) → Passed (forbidTests t g fs) → Placed (t .count) (cells g) fs
 unfolding forbidTests badPattern
 passed-placed t g [] h = tt
@@ -66,23 +79,82 @@ passed-placed t g (f ∷ fs) h = (inside-of g (f .cell) (h .0), leb-false (t .co
 
 -- where nothing is refused, all of that is granted
 pub called-granted : (i : Given) (fs : List Forbid) (m : Memory) → firstOf (runTests i fs m) ≡ 0 → Granted i fs m
-unfolding runTests badLengths badMemory
+unfolding runTests
 called-granted i fs m e =
     let (count, (size, (wrap, (lengths, (weight, (list, (agreement, placed))))))) = first-passed (runTests i fs m) e in
-    let n = cells (i .grid) in
     let P = i .table .count in
-    let (rest, few) = neither (badWeights P (i .weights) || badOffsets P (i .table .offsets) || not (eqb (length (i .noise)) n) || badMemory P n m) (ltb 4096 (length fs)) lengths in
-    let (rest, room) = neither (badWeights P (i .weights) || badOffsets P (i .table .offsets) || not (eqb (length (i .noise)) n)) (badMemory P n m) rest in
-    let (rest, noise) = neither (badWeights P (i .weights) || badOffsets P (i .table .offsets)) (not (eqb (length (i .noise)) n)) rest in
-    let (weights, offsets) = neither (badWeights P (i .weights)) (badOffsets P (i .table .offsets)) rest in
+    let (weights, offsets, noise, room, few) = lengths-granted P (cells (i .grid)) (i .weights) (i .table .offsets) (i .noise) (length fs) (roomOf m) lengths in
     record {
       lawful =
           record { accepted = accepted-by (i .table) count offsets list agreement; weighed = weighed P (i .weights) weights weight; placed = passed-placed (i .table) (i .grid) fs placed };
       sized = sized-of (i .grid) size wrap;
-      few = ltb-false 4096 (length fs) few;
-      noise = long _ _ noise;
-      memory = granted-memory P n m room;
+      few = few;
+      noise = noise;
+      memory = granted-memory P (cells (i .grid)) m room;
     }
+
+-- ---- the first refusal
+
+-- the first refusal of two lists of tests: that of the first list, or of the second where the first refuses nothing
+first-either : (b : Bool) (r : Refusal) {a : ℕ} (m n : ℕ) → a ≡ cond (eqb m 0) n m → cond b (number r) a ≡ cond (eqb (cond b (number r) m) 0) n (cond b (number r) m)
+first-either true r m n e = rw (ne-eqb (number r) 0 (number-positive r))
+first-either false r m n e = e
+
+pub first-append : (ts us : List Test) → firstOf (ts ++ us) ≡ cond (eqb (firstOf ts) 0) (firstOf us) (firstOf ts)
+unfolding firstOf
+first-append [] us = refl
+first-append (t ∷ ts) us = first-either (t .holds) (t .refusal) (firstOf ts) (firstOf us) (first-append ts us)
+
+-- the refusal by the outcomes of its tests, for each end of `check`
+pub baseTests-is : (i : Given) (forbids : ℕ) (r : Room) {count size wrap lengths weight list agreement : Bool}
+    → badCount (i .table .count) ≡ count → badSize (i .grid .width) (i .grid .height) ≡ size → badWrap (i .grid .mode) ≡ wrap
+    → badLengths (i .table .count) (cells (i .grid)) (i .weights) (i .table .offsets) (i .noise) forbids r ≡ lengths → overWeight (i .weights) ≡ weight
+    → badList (i .table) ≡ list → disagree (i .table) ≡ agreement
+    → firstOf (baseTests i forbids r) ≡ cond count 3 (cond size 1 (cond wrap 2 (cond lengths 5 (cond weight 4 (cond list 6 (cond agreement 7 0))))))
+unfolding baseTests firstOf
+baseTests-is i forbids r a b c d e f h = rw (a, b, c, d, e, f, h)
+
+-- that of one forbid, for each end of `judge`
+pub placeTests-is : (P : ℕ) (g : Grid) (c p : ℕ) {cell pattern : Bool} → badCell g c ≡ cell → badPattern P p ≡ pattern
+    → firstOf (placeTests P g c p) ≡ cond cell 8 (cond pattern 9 0)
+unfolding placeTests firstOf
+placeTests-is P g c p a b = rw (a, b)
+
+-- ---- the forbids that are listed
+
+-- one more, the first that is left
+forbidsOf-more : (cs ps ks : List ℕ) (i : ℕ) → i < length cs → length ps ≡ length cs → length ks ≡ length cs
+    → forbidsOf (drop i cs) (drop i ps) (drop i ks)
+    ≡ record { cell = getD cs i 0; pattern = getD ps i 0; keep = getD ks i 0 } ∷ forbidsOf (drop (suc i) cs) (drop (suc i) ps) (drop (suc i) ks)
+unfolding forbidsOf
+forbidsOf-more [] ps ks i h p k = absurd (omega arith)
+forbidsOf-more (c ∷ cs) [] ks i h p k = absurd (omega arith)
+forbidsOf-more (c ∷ cs) (x ∷ ps) [] i h p k = absurd (omega arith)
+forbidsOf-more (c ∷ cs) (x ∷ ps) (y ∷ ks) zero h p k = refl
+forbidsOf-more (c ∷ cs) (x ∷ ps) (y ∷ ks) (suc i) h p k = forbidsOf-more cs ps ks i (omega arith) (omega arith) (omega arith)
+
+module _ (t : Table) (g : Grid) (cs ps ks : List ℕ) where
+  -- the first refusal of those from i on
+  abbrev pub refusalFrom : ℕ → ℕ
+  refusalFrom i = firstOf (forbidTests t g (forbidsOf (drop i cs) (drop i ps) (drop i ks)))
+
+  module _ (p : length ps ≡ length cs) (k : length ks ≡ length cs) (i : ℕ) (h : i < length cs) {n : ℕ} (e : n ≡ firstOf (placeTests (t .count) g (getD cs i 0) (getD ps i 0))) where
+    refusal-split : refusalFrom i ≡ cond (eqb n 0) (refusalFrom (suc i)) n
+    unfolding forbidTests
+    refusal-split =
+        ap (λ (fs : List Forbid). firstOf (forbidTests t g fs)) (forbidsOf-more cs ps ks i h p k)
+        ∙ first-append (placeTests (t .count) g (getD cs i 0) (getD ps i 0)) (forbidTests t g (forbidsOf (drop (suc i) cs) (drop (suc i) ps) (drop (suc i) ks)))
+        ∙ sym (ap (λ (m : ℕ). cond (eqb m 0) (refusalFrom (suc i)) m) e)
+
+    pub refusal-here : (n ≡ 0 → ⊥) → n ≡ refusalFrom i
+    refusal-here z = sym (refusal-split ∙ ap (λ (b : Bool). cond b (refusalFrom (suc i)) n) (ne-eqb n 0 z))
+
+    pub refusal-next : n ≡ 0 → refusalFrom i ≡ refusalFrom (suc i)
+    refusal-next z = refusal-split ∙ ap (λ (b : Bool). cond b (refusalFrom (suc i)) n) (eq-eqb n 0 z)
+
+  pub refusal-end : (i : ℕ) → length cs ≤ i → 0 ≡ refusalFrom i
+  unfolding forbidsOf forbidTests firstOf
+  refusal-end i h = sym (ap (λ (l : List ℕ). firstOf (forbidTests t g (forbidsOf l (drop i ps) (drop i ks)))) (drop-of-length-le cs h))
 
 -- ---- the outcome
 

@@ -1,15 +1,16 @@
 -- A run as it is called: its refusals, its answer, and what every lent slice holds after it. Follows docs/RULES.md, "Run" and "Refusals".
 -- Assumes nothing.
-use mathlib.Core.Bool.{Bool, not, _||_}
-use mathlib.Core.List.{List, [], _∷_}
-use Prim.Native.Nat.{ℕ, zero, suc, _*_}
-use lib.Dec.{ltb, eqb}
+use mathlib.Core.Bool.{Bool, true, false, not, _||_}
+use mathlib.Core.List.{List, [], _∷_, _++_}
+use mathlib.Core.Path.{_≡_}
+use Prim.Native.Nat.{ℕ, zero, suc, _+_, _*_, _≤_}
+use lib.Dec.{leb, ltb, eqb}
 use lib.Ieee.{Float, binary32, ofBits}
 use lib.ListN.{length, replicate}
 use Rattle.refusals.specs.declared.Refusal.the-variants.{BadSize, BadWrap, BadCount, BadWeights, BadLength, BadList, Disagree, BadCell, BadPattern}
 use Rattle.refusals.specs.Refusals.{Test, _gives_, firstOf, Asked, refused, answer, number}
 use Rattle.adjacency.specs.Tables.{Table}
-use Rattle.adjacency.specs.Checks.{badCount, badOffsets, badWeights, overWeight, badList, disagree}
+use Rattle.adjacency.specs.Checks.{badCount, offsetsMisfit, weightsMisfit, overWeight, badList, disagree}
 use Rattle.adjacency.specs.Lookup.{badPattern}
 use Rattle.grid.specs.Grid.{Grid, cells, badSize, badWrap, badCell}
 use Rattle.run.specs.declared.Forbid.{Forbid}
@@ -28,34 +29,76 @@ pub record Memory : Type 0 where
 abbrev pub memory : List ℕ → List ℕ → List ℕ → List Float → List ℕ → Memory
 memory domains counts pending floats marks = record { domains = domains; counts = counts; pending = pending; floats = floats; marks = marks }
 
+-- how long those are
+pub record Room : Type 0 where
+  pub domains : ℕ
+  pub counts : ℕ
+  pub pending : ℕ
+  pub floats : ℕ
+  pub marks : ℕ
+
+abbrev pub room : ℕ → ℕ → ℕ → ℕ → ℕ → Room
+room domains counts pending floats marks = record { domains = domains; counts = counts; pending = pending; floats = floats; marks = marks }
+
+abbrev pub roomOf : Memory → Room
+roomOf m = room (length (m .domains)) (length (m .counts)) (length (m .pending)) (length (m .floats)) (length (m .marks))
+
+-- room for what the start of a run writes
+pub record Opened (P n : ℕ) (domains counts : List ℕ) (floats : List Float) (marks : List ℕ) : Type 0 where
+  pub some : 1 ≤ n
+  pub words : length domains ≡ n
+  pub supports : length counts ≡ n * P * 4
+  pub values : length floats ≡ 2 * n
+  pub notes : length marks ≡ 2 * n
+
 -- ---- refusals
 
 -- of n cells and P patterns: a word for each cell, 4P counts and P pending removals for each, two floats and two marks for each
-unfoldable pub badMemory : ℕ → ℕ → Memory → Bool
-badMemory P n m =
-    not (eqb (length (m .domains)) n) || not (eqb (length (m .counts)) (n * P * 4)) || not (eqb (length (m .pending)) (n * P))
-    || not (eqb (length (m .floats)) (2 * n)) || not (eqb (length (m .marks)) (2 * n))
+unfoldable pub badMemory : ℕ → ℕ → Room → Bool
+badMemory P n r =
+    not (eqb (r .domains) n) || not (eqb (r .counts) (n * P * 4)) || not (eqb (r .pending) (n * P)) || not (eqb (r .floats) (2 * n)) || not (eqb (r .marks) (2 * n))
 
 -- a lent slice has not its published length, or there are over 4,096 forbids
-unfoldable pub badLengths : Given → ℕ → Memory → Bool
-unfolding badWeights badOffsets badMemory
-badLengths i forbids m =
-    badWeights (i .table .count) (i .weights) || badOffsets (i .table .count) (i .table .offsets) || not (eqb (length (i .noise)) (cells (i .grid)))
-    || badMemory (i .table .count) (cells (i .grid)) m || ltb 4096 forbids
+unfoldable pub badLengths : ℕ → ℕ → List ℕ → List ℕ → List ℕ → ℕ → Room → Bool
+unfolding weightsMisfit offsetsMisfit badMemory
+badLengths P n weights offsets noise forbids r =
+    weightsMisfit P weights || offsetsMisfit P offsets || not (eqb (length noise) n) || badMemory P n r || ltb 4096 forbids
 
--- record by record, the cell before the pattern
-unfoldable pub forbidTests : Table → Grid → List Forbid → List Test
+-- 3, 1, 2, 5, 4, 6, 7
+unfoldable pub baseTests : Given → ℕ → Room → List Test
+unfolding badCount badSize badWrap badLengths overWeight badList disagree
+baseTests i forbids r =
+    (badCount (i .table .count) gives BadCount)
+    ∷ (badSize (i .grid .width) (i .grid .height) gives BadSize)
+    ∷ (badWrap (i .grid .mode) gives BadWrap)
+    ∷ (badLengths (i .table .count) (cells (i .grid)) (i .weights) (i .table .offsets) (i .noise) forbids r gives BadLength)
+    ∷ (overWeight (i .weights) gives BadWeights)
+    ∷ (badList (i .table) gives BadList)
+    ∷ (disagree (i .table) gives Disagree)
+    ∷ []
+
+-- of one record: the cell before the pattern
+unfoldable pub placeTests : ℕ → Grid → ℕ → ℕ → List Test
 unfolding badCell badPattern
-forbidTests t g [] = []
-forbidTests t g (f ∷ fs) = (badCell g (f .cell) gives BadCell) ∷ (badPattern (t .count) (f .pattern) gives BadPattern) ∷ forbidTests t g fs
+placeTests P g c p = (badCell g c gives BadCell) ∷ (badPattern P p gives BadPattern) ∷ []
 
--- 3, 1, 2, 5, 4, 6, 7, then the forbids
+-- record by record
+unfoldable pub forbidTests : Table → Grid → List Forbid → List Test
+unfolding placeTests
+forbidTests t g [] = []
+forbidTests t g (f ∷ fs) = placeTests (t .count) g (f .cell) (f .pattern) ++ forbidTests t g fs
+
+-- the forbids whose cells, patterns and keeps are listed
+unfoldable pub forbidsOf : List ℕ → List ℕ → List ℕ → List Forbid
+forbidsOf [] ps ks = []
+forbidsOf (c ∷ cs) [] ks = []
+forbidsOf (c ∷ cs) (p ∷ ps) [] = []
+forbidsOf (c ∷ cs) (p ∷ ps) (k ∷ ks) = record { cell = c; pattern = p; keep = k } ∷ forbidsOf cs ps ks
+
+-- the forbids last
 unfoldable pub runTests : Given → List Forbid → Memory → List Test
-unfolding forbidTests badCount badSize badWrap badLengths overWeight badList disagree
-runTests i fs m =
-    (badCount (i .table .count) gives BadCount) ∷ (badSize (i .grid .width) (i .grid .height) gives BadSize) ∷ (badWrap (i .grid .mode) gives BadWrap)
-    ∷ (badLengths i (length fs) m gives BadLength) ∷ (overWeight (i .weights) gives BadWeights) ∷ (badList (i .table) gives BadList) ∷ (disagree (i .table) gives Disagree)
-    ∷ forbidTests (i .table) (i .grid) fs
+unfolding baseTests forbidTests
+runTests i fs m = baseTests i (length fs) (roomOf m) ++ forbidTests (i .table) (i .grid) fs
 
 -- ---- the outcome
 
@@ -81,11 +124,15 @@ pub record Outcome : Type 0 where
 abbrev pub outcome : Asked End → Memory → Outcome
 outcome told memory = record { told = told; memory = memory }
 
+-- these domains, and work memory that is zero
+unfoldable pub cleared : List ℕ → Room → Memory
+cleared domains r =
+    memory domains (replicate (r .counts) 0) (replicate (r .pending) 0) (replicate (r .floats) (ofBits binary32 0)) (replicate (r .marks) 0)
+
 -- the answer of a run, its domains, and work memory that is zero
 unfoldable pub finished : Ended → Memory → Outcome
-finished e m =
-    outcome (answer (record { end = e .end; used = e .used }))
-    (memory (e .domains) (replicate (length (m .counts)) 0) (replicate (length (m .pending)) 0) (replicate (length (m .floats)) (ofBits binary32 0)) (replicate (length (m .marks)) 0))
+unfolding cleared
+finished e m = outcome (answer (record { end = e .end; used = e .used })) (cleared (e .domains) (roomOf m))
 
 -- refused, all is as it was
 unfoldable pub outcomeAt : ℕ → Given → List Forbid → List ℕ → Memory → Outcome

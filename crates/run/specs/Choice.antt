@@ -8,7 +8,7 @@ use lib.Dec.{leb, ltb, eqb}
 use lib.ListN.{length, getD}
 use Rattle.words.specs.Words.{bit, beyond}
 use Rattle.adjacency.specs.Weights.{weightOf, weightSum}
-use Rattle.adjacency.specs.Checks.{badCount, badWeights, overWeight}
+use Rattle.adjacency.specs.Checks.{badCount, weightsMisfit, overWeight}
 use Rattle.refusals.specs.Refusals.{Asked, refused, answer, number, checked}
 use Rattle.logarithms.specs.Asked.{domainTests}
 use Rattle.run.specs.declared.Choice.{Choice}
@@ -62,5 +62,5 @@ choiceTold (Refused r) = refused (number r)
 
 -- the choice, where nothing is refused: 3, 5, 4, 9
 unfoldable pub choiceAsked : ℕ → List ℕ → ℕ → ℕ → Asked (Option ℕ)
-unfolding checked choiceOf badCount badWeights overWeight beyond
+unfolding checked choiceOf badCount weightsMisfit overWeight beyond
 choiceAsked P weights w word = checked (domainTests P weights w) (choiceOf weights w word)

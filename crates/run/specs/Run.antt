@@ -27,6 +27,9 @@ pub record Given : Type 0 where
   pub grid : Grid
   pub noise : List ℕ
 
+abbrev pub given : Table → List ℕ → Grid → List ℕ → Given
+given table weights grid noise = record { table = table; weights = weights; grid = grid; noise = noise }
+
 -- ---- 1. the start
 
 -- how many patterns have weight, where that is two or more: then each cell starts with a note

@@ -1,21 +1,14 @@
 -- What the steps of a run take and leave, from their parts. Follows docs/RULES.md, "Run".
 -- Assumes nothing.
 use mathlib.Core.Bool.{false}
-use mathlib.Core.List.{List}
 use Prim.Native.Nat.{ℕ, _+_}
-use Rattle.adjacency.specs.Tables.{Table}
-use Rattle.grid.specs.Grid.{Grid}
 use Rattle.propagation.specs.declared.inner.Pile.{Pile}
 use Rattle.run.specs.declared.Forbid.{Forbid}
 use Rattle.run.specs.declared.collapse.Step.{Step}
 use Rattle.run.specs.declared.collapse.Step.the-variants.{Over, On}
 use Rattle.consistency.specs.Worklist.{State}
 use Rattle.propagation.specs.Beside.{Beside}
-use Rattle.run.specs.Run.{Given, ended, Turn}
-
--- what a run is given
-abbrev pub given : Table → List ℕ → Grid → List ℕ → Given
-given table weights grid noise = record { table = table; weights = weights; grid = grid; noise = noise }
+use Rattle.run.specs.Run.{ended, Turn}
 
 -- a forbid
 abbrev pub asking : ℕ → ℕ → ℕ → Forbid

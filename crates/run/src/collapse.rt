@@ -10,7 +10,8 @@ ghost use Rattle.propagation.specs.Beside.{beside};
 ghost use Rattle.propagation.specs.Lent.{stateOf, Lent, Room, Roomy, Ground};
 ghost use Rattle.run.specs.Choice.{taken};
 ghost use Rattle.run.specs.Run as run;
-ghost use Rattle.run.specs.Steps.{given, idle, turnOf};
+ghost use Rattle.run.specs.Run.{given};
+ghost use Rattle.run.specs.Steps.{idle, turnOf};
 use crate::inner::Observed;
 use propagation::inner::Pile;
 

@@ -13,7 +13,8 @@ ghost use Rattle.consistency.specs.Start.{others};
 ghost use Rattle.propagation.specs.Beside.{beside, lessened};
 ghost use Rattle.propagation.specs.Lent.{stateOf, Lent, Room, Ground};
 ghost use Rattle.run.specs.Run.{asked, laid};
-ghost use Rattle.run.specs.Steps.{given, asking, idle};
+ghost use Rattle.run.specs.Run.{given};
+ghost use Rattle.run.specs.Steps.{asking, idle};
 use propagation::inner::Pile;
 
 // Removes every pattern of a cell but one, upward. What is left is read from the cell itself, so only patterns that are possible are visited.

@@ -4,10 +4,12 @@ ghost use Rattle.run.specs.Choice.{choiceTold, choiceAsked};
 use refusals::Refusal;
 use refusals::Verdict;
 
+mod check;
 mod collapse;
 pub mod inner;
 mod laying;
 mod observer;
+mod start;
 
 pub struct Forbid {
     pub cell: u32,

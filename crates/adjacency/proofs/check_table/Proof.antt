@@ -6,7 +6,7 @@ use mathlib.Core.Path.{_≡_, refl, sym, _∙_}
 use borrow.Author.Tests.{eq-eqb, ne-eqb}
 use Rattle.refusals.specs.Refusals.{numberOf}
 use Rattle.adjacency.specs.Tables.{table}
-use Rattle.adjacency.specs.Checks.{badCount, badWeights, badOffsets, overWeight, badList, disagree, tableRefusal}
+use Rattle.adjacency.specs.Checks.{badCount, weightsMisfit, offsetsMisfit, overWeight, badList, disagree, tableRefusal}
 use Rattle.adjacency.proofs.ListLaws.{listed}
 use Rattle.adjacency.proofs.AcceptedLaws.{tableRefusal-is, counted, offsets-long}
 use Rattle.adjacency.proofs.check_table.Statement.{statement}
@@ -17,11 +17,11 @@ use Rattle.adjacency.proofs.check_table.Tie as tie
 count-good : (c : tie.Else1) → badCount (c .before .before .before .before .before .args .count) ≡ false
 count-good c = sym (c .before .bad-count .ensures) ∙ c .if1 .left
 
-offsets-good : (c : tie.Else3) → let a = c .before .before .before .before .before .before .before .before .args in badOffsets (a .count) (a .offsets .now) ≡ false
+offsets-good : (c : tie.Else3) → let a = c .before .before .before .before .before .before .before .before .args in offsetsMisfit (a .count) (a .offsets .now) ≡ false
 offsets-good c = sym (c .before .bad-offsets .ensures) ∙ c .if3 .left
 
-lengths-good : (c : tie.Else3) → let a = c .before .before .before .before .before .before .before .before .args in (badWeights (a .count) (a .weights .now) || badOffsets (a .count) (a .offsets .now)) ≡ false
-unfolding badWeights
+lengths-good : (c : tie.Else3) → let a = c .before .before .before .before .before .before .before .before .args in (weightsMisfit (a .count) (a .weights .now) || offsetsMisfit (a .count) (a .offsets .now)) ≡ false
+unfolding weightsMisfit
 lengths-good c = rw (eq-eqb _ _ (c .before .before .if2 .left)) (offsets-good c)
 
 weights-good : (c : tie.Else4) → overWeight (c .before .before .before .before .before .before .before .before .before .before .args .weights .now) ≡ false
@@ -52,10 +52,10 @@ bad-offsets-requires : tie.Need-bad-offsets-requires
 bad-offsets-requires c κs = counted _ (count-good (c .before)) .1
 
 returns-2 : tie.Need-returns-2
-unfolding numberOf badWeights
+unfolding numberOf weightsMisfit
 returns-2 c =
     let a = c .before .before .before .before .before .before .args in
-    let bad : (badWeights (a .count) (a .weights .now) || badOffsets (a .count) (a .offsets .now)) ≡ true =
+    let bad : (weightsMisfit (a .count) (a .weights .now) || offsetsMisfit (a .count) (a .offsets .now)) ≡ true =
     ⊎-elim (λ w. rw (ne-eqb _ _ (w .taken))) (λ w. rw (eq-eqb _ _ (w .0 .left)) (sym (w .1 .ensures) ∙ w .2 .taken)) (c .if2 .came) in
     sym (tableRefusal-is _ _ (count-good (c .before)) bad refl refl refl)
 

@@ -6,7 +6,7 @@ use borrow.Author.Tests.{lt-ltb, le-ltb, le-leb, lt-leb}
 use Rattle.directions.specs.Directions.{badDirection}
 use Rattle.refusals.specs.Refusals.{numberOf}
 use Rattle.adjacency.specs.Tables.{table}
-use Rattle.adjacency.specs.Checks.{badCount, badOffsets, badList, disagree}
+use Rattle.adjacency.specs.Checks.{badCount, offsetsMisfit, badList, disagree}
 use Rattle.adjacency.specs.Lookup.{badPattern, listRefusal}
 use Rattle.adjacency.proofs.ListLaws.{listed}
 use Rattle.adjacency.proofs.AcceptedLaws.{counted, offsets-long}
@@ -19,7 +19,7 @@ use Rattle.adjacency.proofs.list_refusal.Tie as tie
 count-good : (c : tie.Else1) → badCount (c .before .before .before .before .args .count) ≡ false
 count-good c = sym (c .before .bad-count .ensures) ∙ c .if1 .left
 
-offsets-good : (c : tie.Else2) → let a = c .before .before .before .before .before .before .args in badOffsets (a .count) (a .offsets .now) ≡ false
+offsets-good : (c : tie.Else2) → let a = c .before .before .before .before .before .before .args in offsetsMisfit (a .count) (a .offsets .now) ≡ false
 offsets-good c = sym (c .before .bad-offsets .ensures) ∙ c .if2 .left
 
 list-good : (c : tie.Else3) → let a = c .before .before .before .before .before .before .before .before .args in badList (table (a .count) (a .offsets .now) (a .ids .now)) ≡ false

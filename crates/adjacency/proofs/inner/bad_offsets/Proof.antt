@@ -2,7 +2,7 @@
 -- Assumes nothing.
 use mathlib.Core.Path.{refl}
 use borrow.Author.Needs.{needs}
-use Rattle.adjacency.specs.Checks.{badOffsets}
+use Rattle.adjacency.specs.Checks.{offsetsMisfit}
 use Rattle.adjacency.proofs.inner.bad_offsets.Statement.{statement}
 use Rattle.adjacency.proofs.inner.bad_offsets.Tie as tie
 
@@ -13,7 +13,7 @@ add-result : tie.Need-add-result
 add-result c = search needs
 
 returns : tie.Need-returns
-unfolding badOffsets
+unfolding offsetsMisfit
 returns c = refl
 
 pub bad-offsets-spec : {M : Type 1} → statement M

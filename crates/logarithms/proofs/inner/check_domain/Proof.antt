@@ -5,7 +5,7 @@ use mathlib.Core.Path.{_≡_, sym, _∙_}
 use borrow.Author.Needs.{needs}
 use borrow.Author.Tests.{eq-eqb, ne-eqb}
 use Rattle.refusals.specs.Refusals.{numberOf}
-use Rattle.adjacency.specs.Checks.{badCount, badWeights, overWeight}
+use Rattle.adjacency.specs.Checks.{badCount, weightsMisfit, overWeight}
 use Rattle.logarithms.specs.Asked.{domainRefusal}
 use Rattle.adjacency.proofs.AcceptedLaws.{counted}
 use Rattle.logarithms.proofs.inner.check_domain.Statement.{statement}
@@ -15,8 +15,8 @@ use Rattle.logarithms.proofs.inner.check_domain.Tie as tie
 some-few : (c : tie.Else1) → badCount (c .before .before .before .args .count) ≡ false
 some-few c = sym (c .before .bad-count .ensures) ∙ c .if1 .left
 
-one-each : (c : tie.Else2) → let a = c .before .before .before .before .args in badWeights (a .count) (a .weights .now) ≡ false
-unfolding badWeights
+one-each : (c : tie.Else2) → let a = c .before .before .before .before .args in weightsMisfit (a .count) (a .weights .now) ≡ false
+unfolding weightsMisfit
 one-each c = rw (eq-eqb _ _ (c .if2 .left))
 
 light : (c : tie.Else3) → overWeight (c .before .before .before .before .before .before .args .weights .now) ≡ false
@@ -30,7 +30,7 @@ unfolding domainRefusal numberOf
 returns c = rw (sym (c .before .bad-count .ensures) ∙ c .if1 .taken)
 
 returns-2 : tie.Need-returns-2
-unfolding domainRefusal numberOf badWeights
+unfolding domainRefusal numberOf weightsMisfit
 returns-2 c = rw (some-few (c .before), ne-eqb _ _ (c .if2 .taken))
 
 over-weight-requires : tie.Need-over-weight-requires

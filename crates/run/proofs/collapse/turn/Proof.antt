@@ -9,7 +9,8 @@ use Rattle.consistency.specs.Worklist.{State}
 use Rattle.propagation.specs.Beside.{Beside, beside}
 use Rattle.propagation.specs.Lent.{stateOf}
 use Rattle.run.specs.Run.{Given}
-use Rattle.run.specs.Steps.{given, idle}
+use Rattle.run.specs.Run.{given}
+use Rattle.run.specs.Steps.{idle}
 use Rattle.run.proofs.StepLaws.{cell-inside, cell-weight, told-still, turn-paused, turn-chosen}
 use Rattle.run.proofs.collapse.turn.Statement.{statement}
 use Rattle.run.proofs.collapse.turn.Tie as tie
