@@ -1,0 +1,5 @@
+pub mod Sheet
+pub mod Tables
+pub mod Reading
+pub mod Called
+pub mod Result
