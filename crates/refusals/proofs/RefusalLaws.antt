@@ -1,11 +1,13 @@
 -- Laws of the first refusal that holds, and that a number names one refusal.
 -- Assumes nothing.
 use mathlib.Core.Bool.{Bool, true, false, cond}
-use mathlib.Core.List.{List, [], _∷_}
+use mathlib.Core.List.{List, [], _∷_, _++_}
 use mathlib.Core.Path.{_≡_, refl, sym, ap, _∙_}
-use Prim.Native.Nat.{ℕ, zero, suc, _-_}
+use Prim.Native.Nat.{ℕ, zero, suc, _-_, _≤_}
 use native.Mathlib.Omega.{arith}
+use lib.Dec.{eqb}
 use lib.ListN.{getD}
+use borrow.Author.Tests.{ne-eqb}
 use Rattle.refusals.specs.declared.Refusal.{Refusal}
 use Rattle.refusals.specs.declared.Refusal.the-variants.{BadSize, BadWrap, BadCount, BadWeights, BadLength, BadList, Disagree, BadCell, BadPattern, BadSheet, BadDirection}
 use Rattle.refusals.specs.declared.Verdict.{Verdict}
@@ -109,6 +111,40 @@ first-passed (t ∷ ts) e = let (h, rest) = first-none t ts e in (h, first-passe
 pub passed-first : (ts : List Test) → Passed ts → firstOf ts ≡ 0
 passed-first [] h = first-empty
 passed-first (t ∷ ts) (h, rest) = first-next t ts h ∙ passed-first ts rest
+
+-- the first refusal of two lists of tests: that of the first list, or of the second where the first refuses nothing
+first-either : (b : Bool) (r : Refusal) {a : ℕ} (m n : ℕ) → a ≡ cond (eqb m 0) n m → cond b (number r) a ≡ cond (eqb (cond b (number r) m) 0) n (cond b (number r) m)
+first-either true r m n e = rw (ne-eqb (number r) 0 (number-positive r))
+first-either false r m n e = e
+
+pub first-append : (ts us : List Test) → firstOf (ts ++ us) ≡ cond (eqb (firstOf ts) 0) (firstOf us) (firstOf ts)
+unfolding firstOf
+first-append [] us = refl
+first-append (t ∷ ts) us = first-either (t .holds) (t .refusal) (firstOf ts) (firstOf us) (first-append ts us)
+
+-- no number of a refusal is over 11, nor is that of the first
+pub number-most : (r : Refusal) → number r ≤ 11
+unfolding number
+number-most BadSize = omega arith
+number-most BadWrap = omega arith
+number-most BadCount = omega arith
+number-most BadWeights = omega arith
+number-most BadLength = omega arith
+number-most BadList = omega arith
+number-most Disagree = omega arith
+number-most BadCell = omega arith
+number-most BadPattern = omega arith
+number-most BadSheet = omega arith
+number-most BadDirection = omega arith
+
+pub first-most : (ts : List Test) → firstOf ts ≤ 11
+unfolding firstOf
+first-most [] = omega arith
+first-most (t ∷ ts) = go (t .holds) (first-most ts)
+  where
+    go : (b : Bool) → firstOf ts ≤ 11 → cond b (number (t .refusal)) (firstOf ts) ≤ 11
+    go true h = number-most (t .refusal)
+    go false h = h
 
 -- ---- an answer or a refusal
 

@@ -1,15 +1,13 @@
 -- A run as it is called: what the refusals leave, that a refusal changes nothing, and that no second outcome fits.
 -- Follows docs/RULES.md, "Run" and "Refusals". Assumes nothing.
-use mathlib.Core.Bool.{Bool, true, false, not, cond, _||_}
-use mathlib.Core.List.{List, [], _∷_, _++_}
+use mathlib.Core.Bool.{Bool, false, not, cond, _||_}
+use mathlib.Core.List.{List, [], _∷_}
 use mathlib.Core.Path.{_≡_, refl, sym, ap, _∙_}
-use Prim.Native.Nat.{ℕ, zero, suc, _*_, _≤_, _<_}
-use native.Mathlib.Omega.{arith}
+use Prim.Native.Nat.{ℕ, suc, _*_, _≤_}
 use lib.Dec.{ltb, eqb}
-use lib.ListN.{length, getD, drop, drop-of-length-le}
-use borrow.Author.Tests.{eq-eqb, ne-eqb, eqb-true, ltb-false, leb-false, not-false}
-use Rattle.refusals.specs.declared.Refusal.{Refusal}
-use Rattle.refusals.specs.Refusals.{number, Test, firstOf, Asked, refused, answer}
+use lib.ListN.{length, getD}
+use borrow.Author.Tests.{eqb-true, ltb-false, leb-false, not-false}
+use Rattle.refusals.specs.Refusals.{firstOf, Asked, refused, answer}
 use Rattle.adjacency.specs.Tables.{Table}
 use Rattle.adjacency.specs.Checks.{badCount, weightsMisfit, offsetsMisfit, overWeight, badList, disagree}
 use Rattle.adjacency.specs.Lookup.{badPattern}
@@ -19,28 +17,20 @@ use Rattle.run.specs.declared.Answer.{Answer}
 use Rattle.run.specs.declared.Answer.the-variants.{Decided, Undecided, Paused, Contradiction, Refused}
 use Rattle.run.specs.Run.{Given, runOf}
 use Rattle.run.specs.Course.{Placed, Lawful}
-use Rattle.run.specs.Called.{Memory, Room, roomOf, badMemory, badLengths, baseTests, placeTests, forbidTests, forbidsOf, runTests, End, answerTold, Outcome, outcome, finished, outcomeAt, called}
+use Rattle.run.specs.Called.{Memory, Room, roomOf, Measured, badMemory, badLengths, baseTests, placeTests, forbidTests, testsOf, End, answerTold, Outcome, outcome, finished, outcomeAt, calledOf}
 use Rattle.loops.proofs.TestLaws.{neither}
-use Rattle.refusals.proofs.RefusalLaws.{named, named-number, number-positive, Passed, first-passed}
+use Rattle.refusals.proofs.RefusalLaws.{named, named-number, Passed, first-passed}
 use Rattle.adjacency.proofs.WeightLaws.{weighed}
 use Rattle.adjacency.proofs.AcceptedLaws.{accepted-by}
 use Rattle.grid.proofs.GridLaws.{sized-of, inside-of}
 
 -- ---- what the refusals leave
 
--- every lent slice that is written has its length
-pub record Measured (P n : ℕ) (m : Memory) : Type 0 where
-  pub domains : length (m .domains) ≡ n
-  pub counts : length (m .counts) ≡ n * P * 4
-  pub pending : length (m .pending) ≡ n * P
-  pub floats : length (m .floats) ≡ 2 * n
-  pub marks : length (m .marks) ≡ 2 * n
-
--- the table, the grid and the forbids are lawful, and every lent slice has its length
-pub record Granted (i : Given) (fs : List Forbid) (m : Memory) : Type 0 where
+-- the table, the grid and the forbids are lawful, there are not too many of those, and every lent slice has its length
+pub record Granted (lent : ℕ) (i : Given) (fs : List Forbid) (m : Memory) : Type 0 where
   pub lawful : Lawful i fs
   pub sized : Sized (i .grid)
-  pub few : length fs ≤ 4096
+  pub few : lent ≤ 4096
   pub noise : length (i .noise) ≡ cells (i .grid)
   pub memory : Measured (i .table .count) (cells (i .grid)) m
 
@@ -78,12 +68,12 @@ passed-placed t g [] h = tt
 passed-placed t g (f ∷ fs) h = (inside-of g (f .cell) (h .0), leb-false (t .count) (f .pattern) (h .1 .0), passed-placed t g fs (h .1 .1))
 
 -- where nothing is refused, all of that is granted
-pub called-granted : (i : Given) (fs : List Forbid) (m : Memory) → firstOf (runTests i fs m) ≡ 0 → Granted i fs m
-unfolding runTests
-called-granted i fs m e =
-    let (count, (size, (wrap, (lengths, (weight, (list, (agreement, placed))))))) = first-passed (runTests i fs m) e in
+pub called-granted : (lent : ℕ) (i : Given) (fs : List Forbid) (m : Memory) → firstOf (testsOf lent i fs m) ≡ 0 → Granted lent i fs m
+unfolding testsOf
+called-granted lent i fs m e =
+    let (count, (size, (wrap, (lengths, (weight, (list, (agreement, placed))))))) = first-passed (testsOf lent i fs m) e in
     let P = i .table .count in
-    let (weights, offsets, noise, room, few) = lengths-granted P (cells (i .grid)) (i .weights) (i .table .offsets) (i .noise) (length fs) (roomOf m) lengths in
+    let (weights, offsets, noise, room, few) = lengths-granted P (cells (i .grid)) (i .weights) (i .table .offsets) (i .noise) lent (roomOf m) lengths in
     record {
       lawful =
           record { accepted = accepted-by (i .table) count offsets list agreement; weighed = weighed P (i .weights) weights weight; placed = passed-placed (i .table) (i .grid) fs placed };
@@ -94,16 +84,6 @@ called-granted i fs m e =
     }
 
 -- ---- the first refusal
-
--- the first refusal of two lists of tests: that of the first list, or of the second where the first refuses nothing
-first-either : (b : Bool) (r : Refusal) {a : ℕ} (m n : ℕ) → a ≡ cond (eqb m 0) n m → cond b (number r) a ≡ cond (eqb (cond b (number r) m) 0) n (cond b (number r) m)
-first-either true r m n e = rw (ne-eqb (number r) 0 (number-positive r))
-first-either false r m n e = e
-
-pub first-append : (ts us : List Test) → firstOf (ts ++ us) ≡ cond (eqb (firstOf ts) 0) (firstOf us) (firstOf ts)
-unfolding firstOf
-first-append [] us = refl
-first-append (t ∷ ts) us = first-either (t .holds) (t .refusal) (firstOf ts) (firstOf us) (first-append ts us)
 
 -- the refusal by the outcomes of its tests, for each end of `check`
 pub baseTests-is : (i : Given) (forbids : ℕ) (r : Room) {count size wrap lengths weight list agreement : Bool}
@@ -120,53 +100,17 @@ pub placeTests-is : (P : ℕ) (g : Grid) (c p : ℕ) {cell pattern : Bool} → b
 unfolding placeTests firstOf
 placeTests-is P g c p a b = rw (a, b)
 
--- ---- the forbids that are listed
-
--- one more, the first that is left
-forbidsOf-more : (cs ps ks : List ℕ) (i : ℕ) → i < length cs → length ps ≡ length cs → length ks ≡ length cs
-    → forbidsOf (drop i cs) (drop i ps) (drop i ks)
-    ≡ record { cell = getD cs i 0; pattern = getD ps i 0; keep = getD ks i 0 } ∷ forbidsOf (drop (suc i) cs) (drop (suc i) ps) (drop (suc i) ks)
-unfolding forbidsOf
-forbidsOf-more [] ps ks i h p k = absurd (omega arith)
-forbidsOf-more (c ∷ cs) [] ks i h p k = absurd (omega arith)
-forbidsOf-more (c ∷ cs) (x ∷ ps) [] i h p k = absurd (omega arith)
-forbidsOf-more (c ∷ cs) (x ∷ ps) (y ∷ ks) zero h p k = refl
-forbidsOf-more (c ∷ cs) (x ∷ ps) (y ∷ ks) (suc i) h p k = forbidsOf-more cs ps ks i (omega arith) (omega arith) (omega arith)
-
-module _ (t : Table) (g : Grid) (cs ps ks : List ℕ) where
-  -- the first refusal of those from i on
-  abbrev pub refusalFrom : ℕ → ℕ
-  refusalFrom i = firstOf (forbidTests t g (forbidsOf (drop i cs) (drop i ps) (drop i ks)))
-
-  module _ (p : length ps ≡ length cs) (k : length ks ≡ length cs) (i : ℕ) (h : i < length cs) {n : ℕ} (e : n ≡ firstOf (placeTests (t .count) g (getD cs i 0) (getD ps i 0))) where
-    refusal-split : refusalFrom i ≡ cond (eqb n 0) (refusalFrom (suc i)) n
-    unfolding forbidTests
-    refusal-split =
-        ap (λ (fs : List Forbid). firstOf (forbidTests t g fs)) (forbidsOf-more cs ps ks i h p k)
-        ∙ first-append (placeTests (t .count) g (getD cs i 0) (getD ps i 0)) (forbidTests t g (forbidsOf (drop (suc i) cs) (drop (suc i) ps) (drop (suc i) ks)))
-        ∙ sym (ap (λ (m : ℕ). cond (eqb m 0) (refusalFrom (suc i)) m) e)
-
-    pub refusal-here : (n ≡ 0 → ⊥) → n ≡ refusalFrom i
-    refusal-here z = sym (refusal-split ∙ ap (λ (b : Bool). cond b (refusalFrom (suc i)) n) (ne-eqb n 0 z))
-
-    pub refusal-next : n ≡ 0 → refusalFrom i ≡ refusalFrom (suc i)
-    refusal-next z = refusal-split ∙ ap (λ (b : Bool). cond b (refusalFrom (suc i)) n) (eq-eqb n 0 z)
-
-  pub refusal-end : (i : ℕ) → length cs ≤ i → 0 ≡ refusalFrom i
-  unfolding forbidsOf forbidTests firstOf
-  refusal-end i h = sym (ap (λ (l : List ℕ). firstOf (forbidTests t g (forbidsOf l (drop i ps) (drop i ks)))) (drop-of-length-le cs h))
-
 -- ---- the outcome
 
-module _ (i : Given) (fs : List Forbid) (words : List ℕ) (m : Memory) where
+module _ (lent : ℕ) (i : Given) (fs : List Forbid) (words : List ℕ) (m : Memory) where
   -- where nothing is refused it is the run's
-  pub called-accepted : firstOf (runTests i fs m) ≡ 0 → called i fs words m ≡ finished (runOf i fs words) m
-  unfolding called outcomeAt
+  pub called-accepted : firstOf (testsOf lent i fs m) ≡ 0 → calledOf lent i fs words m ≡ finished (runOf i fs words) m
+  unfolding calledOf outcomeAt
   called-accepted e = rw e
 
   -- a refusal changes nothing, and tells its number alone
-  pub refused-same : (n : ℕ) → firstOf (runTests i fs m) ≡ suc n → called i fs words m ≡ outcome (refused (suc n)) m
-  unfolding called outcomeAt
+  pub refused-same : (n : ℕ) → firstOf (testsOf lent i fs m) ≡ suc n → calledOf lent i fs words m ≡ outcome (refused (suc n)) m
+  unfolding calledOf outcomeAt
   refused-same n e = rw e
 
 -- ---- no second outcome fits
@@ -189,7 +133,7 @@ pub answerTold-injective : (a b : Answer) → answerTold a ≡ answerTold b → 
 answerTold-injective a b e = sym (answered-told a) ∙ ap answered e ∙ answered-told b
 
 -- two outcomes that meet the contract are the same
-pub run-unique : (i : Given) (fs : List Forbid) (words : List ℕ) (m : Memory) (a b : Answer) (m₁ m₂ : Memory)
-    → outcome (answerTold a) m₁ ≡ called i fs words m → outcome (answerTold b) m₂ ≡ called i fs words m → (a ≡ b) × (m₁ ≡ m₂)
-run-unique i fs words m a b m₁ m₂ p q =
+pub run-unique : (lent : ℕ) (i : Given) (fs : List Forbid) (words : List ℕ) (m : Memory) (a b : Answer) (m₁ m₂ : Memory)
+    → outcome (answerTold a) m₁ ≡ calledOf lent i fs words m → outcome (answerTold b) m₂ ≡ calledOf lent i fs words m → (a ≡ b) × (m₁ ≡ m₂)
+run-unique lent i fs words m a b m₁ m₂ p q =
     (answerTold-injective a b (ap (λ (o : Outcome). o .told) (p ∙ sym q)), ap (λ (o : Outcome). o .memory) (p ∙ sym q))

@@ -11,7 +11,7 @@ use Rattle.grid.specs.Grid.{Grid, grid, cells}
 use Rattle.refusals.specs.Refusals.{answer}
 use Rattle.run.specs.declared.Forbid.{Forbid}
 use Rattle.run.specs.Choice.{choiceOf}
-use Rattle.run.specs.Called.{Memory, memory, Outcome, called}
+use Rattle.run.specs.Called.{Memory, memory, Outcome, calledOf, called}
 use Rattle.consistency.proofs.Cases.{checker}
 
 -- three patterns that allow all beside them
@@ -46,7 +46,7 @@ lent k n x domains =
 
 -- what it comes to, on memory that is full of sevens
 unfoldable pub found : Call → Outcome
-unfolding called
+unfolding calledOf
 found k =
     called (record { table = k .table; weights = k .weights; grid = k .grid; noise = replicate (cells (k .grid)) 0 }) (k .forbids) (k .words)
     (lent k 7 (ofBits binary32 7) (replicate (cells (k .grid)) 7))

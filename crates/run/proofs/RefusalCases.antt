@@ -9,13 +9,13 @@ use Rattle.refusals.specs.Refusals.{firstOf}
 use Rattle.adjacency.specs.Tables.{Table, table}
 use Rattle.grid.specs.Grid.{Grid, grid}
 use Rattle.run.specs.declared.Forbid.{Forbid}
-use Rattle.run.specs.Called.{Memory, memory, runTests}
+use Rattle.run.specs.Called.{Memory, memory, testsOf, runTests}
 use Rattle.consistency.proofs.Cases.{checker}
 use Rattle.run.proofs.Cases.{forbid, keepOnly}
 
 -- the number of the refusal, 0 where the call is accepted; the noise words are 0
 refusal : Table → List ℕ → Grid → ℕ → List Forbid → Memory → ℕ
-unfolding firstOf runTests
+unfolding firstOf testsOf
 refusal t weights g noises fs m = firstOf (runTests (record { table = t; weights = weights; grid = g; noise = replicate noises 0 }) fs m)
 
 -- slices of these lengths

@@ -1,9 +1,9 @@
 -- A run as it is called: its refusals, its answer, and what every lent slice holds after it. Follows docs/RULES.md, "Run" and "Refusals".
 -- Assumes nothing.
-use mathlib.Core.Bool.{Bool, true, false, not, _||_}
+use mathlib.Core.Bool.{Bool, true, false, not, cond, _||_}
 use mathlib.Core.List.{List, [], _∷_, _++_}
 use mathlib.Core.Path.{_≡_}
-use Prim.Native.Nat.{ℕ, zero, suc, _+_, _*_, _≤_}
+use Prim.Native.Nat.{ℕ, zero, suc, _+_, _*_, _/_, _%_, _≤_}
 use lib.Dec.{leb, ltb, eqb}
 use lib.Ieee.{Float, binary32, ofBits}
 use lib.ListN.{length, replicate}
@@ -42,6 +42,14 @@ room domains counts pending floats marks = record { domains = domains; counts = 
 
 abbrev pub roomOf : Memory → Room
 roomOf m = room (length (m .domains)) (length (m .counts)) (length (m .pending)) (length (m .floats)) (length (m .marks))
+
+-- every lent slice that is written has its length, of P patterns at n cells
+pub record Measured (P n : ℕ) (m : Memory) : Type 0 where
+  pub domains : length (m .domains) ≡ n
+  pub counts : length (m .counts) ≡ n * P * 4
+  pub pending : length (m .pending) ≡ n * P
+  pub floats : length (m .floats) ≡ 2 * n
+  pub marks : length (m .marks) ≡ 2 * n
 
 -- room for what the start of a run writes
 pub record Opened (P n : ℕ) (domains counts : List ℕ) (floats : List Float) (marks : List ℕ) : Type 0 where
@@ -88,17 +96,24 @@ unfolding placeTests
 forbidTests t g [] = []
 forbidTests t g (f ∷ fs) = placeTests (t .count) g (f .cell) (f .pattern) ++ forbidTests t g fs
 
--- the forbids whose cells, patterns and keeps are listed
-unfoldable pub forbidsOf : List ℕ → List ℕ → List ℕ → List Forbid
-forbidsOf [] ps ks = []
-forbidsOf (c ∷ cs) [] ks = []
-forbidsOf (c ∷ cs) (p ∷ ps) [] = []
-forbidsOf (c ∷ cs) (p ∷ ps) (k ∷ ks) = record { cell = c; pattern = p; keep = k } ∷ forbidsOf cs ps ks
+-- forbids that are lent as numbers, three for each: the cell, the pattern, and what is kept
+unfoldable pub forbidsOf : List ℕ → List Forbid
+forbidsOf [] = []
+forbidsOf (c ∷ []) = []
+forbidsOf (c ∷ p ∷ []) = []
+forbidsOf (c ∷ p ∷ k ∷ ns) = record { cell = c; pattern = p; keep = k } ∷ forbidsOf ns
 
--- the forbids last
-unfoldable pub runTests : Given → List Forbid → Memory → List Test
+-- how many those are; numbers that are not three for each are refused, as one forbid too many is
+unfoldable pub recordsIn : List ℕ → ℕ
+recordsIn ns = cond (eqb (length ns % 3) 0) (length ns / 3) 4097
+
+-- the forbids last; `lent` is how many there are
+unfoldable pub testsOf : ℕ → Given → List Forbid → Memory → List Test
 unfolding baseTests forbidTests
-runTests i fs m = baseTests i (length fs) (roomOf m) ++ forbidTests (i .table) (i .grid) fs
+testsOf lent i fs m = baseTests i lent (roomOf m) ++ forbidTests (i .table) (i .grid) fs
+
+abbrev pub runTests : Given → List Forbid → Memory → List Test
+runTests i fs m = testsOf (length fs) i fs m
 
 -- ---- the outcome
 
@@ -140,7 +155,15 @@ unfolding finished runOf
 outcomeAt zero i fs words m = finished (runOf i fs words) m
 outcomeAt (suc n) i fs words m = outcome (refused (suc n)) m
 
+-- what a call comes to, of which `lent` says how many forbids there are
+unfoldable pub calledOf : ℕ → Given → List Forbid → List ℕ → Memory → Outcome
+unfolding firstOf outcomeAt testsOf
+calledOf lent i fs words m = outcomeAt (firstOf (testsOf lent i fs m)) i fs words m
+
 -- what a call of `run` comes to
-unfoldable pub called : Given → List Forbid → List ℕ → Memory → Outcome
-unfolding firstOf outcomeAt runTests
-called i fs words m = outcomeAt (firstOf (runTests i fs m)) i fs words m
+abbrev pub called : Given → List Forbid → List ℕ → Memory → Outcome
+called i fs words m = calledOf (length fs) i fs words m
+
+-- what it comes to where the forbids are lent as numbers
+abbrev pub calledNumbers : Given → List ℕ → List ℕ → Memory → Outcome
+calledNumbers i ns words m = calledOf (recordsIn ns) i (forbidsOf ns) words m

@@ -2,12 +2,11 @@
 ghost use mathlib.Core.Path.{_≡_};
 ghost use mathlib.Core.List.{List};
 ghost use Prim.Native.Nat.{ℕ, _≤_};
-ghost use lib.ListN.{length};
 ghost use Rattle.refusals.specs.Refusals.{numberOf, firstOf};
 ghost use Rattle.adjacency.specs.Tables.{table};
 ghost use Rattle.grid.specs.Grid.{grid, badCell};
 ghost use Rattle.run.specs.Run.{given};
-ghost use Rattle.run.specs.Called.{room, badMemory, badLengths, baseTests, placeTests, forbidTests, forbidsOf};
+ghost use Rattle.run.specs.Called.{room, badMemory, badLengths, baseTests, placeTests, forbidTests, forbidsOf, recordsIn};
 use refusals::Refusal;
 use refusals::Verdict;
 
@@ -154,21 +153,24 @@ pub(crate) fn judge(cell: u32, pattern: u32, count: usize, width: usize, height:
     0
 }
 
-// The number of the first refusal of forbids that are given as numbers, 0 for none.
-pub(crate) fn judge_all(
-    cells: &[u32],
-    patterns: &[u32],
-    count: usize,
-    width: usize,
-    height: usize,
-) -> u32
-    requires { ⌜ length (now patterns) ≡ length (now cells) ⌝ }
-    ensures { λ r. ⌜ ((offsets ids keeps : List ℕ) (mode : ℕ) → length keeps ≡ length (now (cells .entry))
-        → r ≡ firstOf (forbidTests (table count offsets ids) (grid width height mode) (forbidsOf (now (cells .entry)) (now (patterns .entry)) keeps))) ⌝ }
+// How many forbids are lent as numbers, three for each; one too many where they are not three for each.
+pub(crate) fn records_in(forbids: &[u32]) -> usize
+    ensures { λ r. ⌜ r ≡ recordsIn (now (forbids .entry)) ⌝ }
+{
+    if forbids.len() % 3 == 0 {
+        return forbids.len() / 3;
+    }
+    4097
+}
+
+// The number of the first refusal of forbids that are lent as numbers, 0 for none.
+pub(crate) fn judge_all(forbids: &[u32], count: usize, width: usize, height: usize) -> u32
+    ensures { λ r. ⌜ ((offsets ids : List ℕ) (mode : ℕ)
+        → r ≡ firstOf (forbidTests (table count offsets ids) (grid width height mode) (forbidsOf (now (forbids .entry))))) ⌝ }
 {
     let mut i = 0;
-    while i < cells.len() {
-        let refusal = judge(cells[i], patterns[i], count, width, height);
+    while i < forbids.len() / 3 {
+        let refusal = judge(forbids[3 * i], forbids[3 * i + 1], count, width, height);
         if refusal != 0 {
             return refusal;
         }
