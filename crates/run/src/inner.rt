@@ -1,10 +1,16 @@
 // The steps of a run, without checks. Follows docs/RULES.md, "Run".
+ghost use mathlib.Core.List.{List};
 ghost use mathlib.Core.Option.{some};
 ghost use mathlib.Core.Path.{_≡_};
-ghost use Prim.Native.Nat.{_<_};
+ghost use Prim.Native.Nat.{ℕ, _<_};
+ghost use Rattle.refusals.specs.Refusals.{firstOf};
+ghost use Rattle.adjacency.specs.Tables.{table};
 ghost use Rattle.adjacency.specs.Weights.{Bounded, weightSum};
+ghost use Rattle.grid.specs.Grid.{grid};
+ghost use Rattle.run.specs.Called.{forbidTests, forbidsOf, recordsIn};
 ghost use Rattle.run.specs.Observer.{Lengths, notesIn, observe};
 ghost use Rattle.run.specs.Choice.{taken};
+use crate::check;
 use crate::observer;
 use crate::observer::Best;
 
@@ -46,4 +52,19 @@ pub fn choose(weights: &[u32], word: u64, number: u32) -> usize
         p = words::inner::next_pattern(left);
     }
     p
+}
+
+// The number of the first refusal of forbids that are lent as numbers, 0 for none.
+pub fn judge_all(forbids: &[u32], count: usize, width: usize, height: usize) -> u32
+    ensures { λ r. ⌜ ((offsets ids : List ℕ) (mode : ℕ)
+        → r ≡ firstOf (forbidTests (table count offsets ids) (grid width height mode) (forbidsOf (now (forbids .entry))))) ⌝ }
+{
+    check::judge_all(forbids, count, width, height)
+}
+
+// How many forbids are lent as numbers, three for each; one too many where they are not three for each.
+pub fn records_in(forbids: &[u32]) -> usize
+    ensures { λ r. ⌜ r ≡ recordsIn (now (forbids .entry)) ⌝ }
+{
+    check::records_in(forbids)
 }
