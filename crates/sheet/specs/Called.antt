@@ -12,13 +12,14 @@ use Rattle.adjacency.specs.Tables.{Table}
 use Rattle.adjacency.specs.Checks.{badCount, weightsMisfit, offsetsMisfit, overWeight, badList, disagree}
 use Rattle.grid.specs.Grid.{Grid, badSize, badWrap}
 use Rattle.run.specs.Called.{forbidTests, forbidsOf, recordsIn}
-use Rattle.sheet.specs.declared.Sizes.{Sizes}
-use Rattle.sheet.specs.declared.Sizes.the-variants as sizes
+use Rattle.sheet.specs.declared.Measures.{Measures}
+use Rattle.sheet.specs.declared.SizesAnswer.{SizesAnswer}
 use Rattle.sheet.specs.declared.Written.{Written}
-use Rattle.sheet.specs.declared.Written.the-variants as written
 use Rattle.sheet.specs.Sheet.{Sheet, sheet, bytesOf}
 use Rattle.sheet.specs.Tables.{tableOf, joined, listsOf, stored}
 use Rattle.sheet.specs.Reading.{wellFormed, sheetIn}
+use Rattle.sheet.specs.declared.SizesAnswer.the-variants as sizes
+use Rattle.sheet.specs.declared.Written.the-variants as written
 
 -- ---- refusals
 
@@ -42,25 +43,22 @@ formTest b = not (wellFormed b) gives BadSheet
 -- ---- sizes
 
 -- how much a sheet holds
-pub record Measures : Type 0 where
-  pub count : ℕ
-  pub ids : ℕ
-  pub width : ℕ
-  pub height : ℕ
-  pub mode : ℕ
-  pub forbids : ℕ
-
-abbrev pub measures : ℕ → ℕ → ℕ → ℕ → ℕ → ℕ → Measures
-measures count ids width height mode forbids = record { count = count; ids = ids; width = width; height = height; mode = mode; forbids = forbids }
-
 unfoldable pub measured : Sheet → Measures
 unfolding joined
-measured s = measures (length (s .weights)) (length (joined (s .lists))) (s .grid .width) (s .grid .height) (s .grid .mode) (length (s .forbids) / 3)
+measured s =
+    record {
+      count = length (s .weights);
+      ids = length (joined (s .lists));
+      width = s .grid .width;
+      height = s .grid .height;
+      mode = s .grid .mode;
+      forbids = length (s .forbids) / 3;
+    }
 
 -- what an answer tells
-unfoldable pub sizesTold : Sizes → Asked Measures
+unfoldable pub sizesTold : SizesAnswer → Asked Measures
 unfolding number
-sizesTold (sizes.Sheet count ids width height mode forbids) = answer (measures count ids width height mode forbids)
+sizesTold (sizes.Sheet m) = answer m
 sizesTold (sizes.Refused r) = refused (number r)
 
 -- what a call of `sizes` comes to

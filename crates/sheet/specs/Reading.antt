@@ -1,11 +1,12 @@
 -- Which bytes are a sheet, and what they say. Follows docs/RULES.md, "Sheet". Assumes nothing.
 use mathlib.Core.Bool.{Bool, true, false, _&&_}
 use mathlib.Core.List.{List, [], _∷_}
+use mathlib.Core.Path.{_≡_}
 use Prim.Native.Nat.{ℕ, zero, suc, _+_, _*_, _%_}
 use lib.Dec.{leb, eqb}
 use lib.ListN.{length, take, drop}
 use Rattle.records.specs.Numbers.{u16At, numbersIn}
-use Rattle.records.specs.Records.{begins, payloadOf, restOf}
+use Rattle.records.specs.Records.{Framed, begins, payloadOf, restOf}
 use Rattle.grid.specs.Grid.{Grid, grid}
 use Rattle.sheet.specs.Sheet.{Sheet, sheet}
 
@@ -25,6 +26,14 @@ unfoldable pub framed : List ℕ → Bool
 unfolding begins restOf
 framed b =
     begins 1 b && (begins 2 (fromLists b) && (begins 3 (fromGrid b) && (begins 4 (fromForbids b) && eqb (length (restOf (fromForbids b))) 0)))
+
+-- what that says of where they are
+pub record Frames (b : List ℕ) : Type 0 where
+  pub first : Framed b
+  pub second : Framed (fromLists b)
+  pub third : Framed (fromGrid b)
+  pub fourth : Framed (fromForbids b)
+  pub nothing : restOf (fromForbids b) ≡ []
 
 -- ---- what each holds
 
