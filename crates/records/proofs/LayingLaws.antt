@@ -64,6 +64,19 @@ pub laid-then : (new more old : List ℕ) (at : ℕ) {slice₁ slice₂ : List �
     → pen slice₁ place₁ ≡ laid new (pen old at) → pen slice₂ place₂ ≡ laid more (pen slice₁ place₁) → pen slice₂ place₂ ≡ laid (new ++ more) (pen old at)
 laid-then new more old at e f = f ∙ ap (laid more) e ∙ sym (laid-append new more (pen old at))
 
+-- a loop that writes part by part: what is left is the part that a turn wrote, and what is left then
+pub laid-turn : (whole part rest out : List ℕ) (place : ℕ) {out′ : List ℕ} {place′ : ℕ} {R : Pen} → whole ≡ part ++ rest
+    → pen out′ place′ ≡ laid part (pen out place) → laid whole (pen out place) ≡ R → laid rest (pen out′ place′) ≡ R
+laid-turn whole part rest out place e f inv = ap (laid rest) f ∙ sym (laid-append part rest (pen out place)) ∙ sym (ap (λ (l : List ℕ). laid l (pen out place)) e) ∙ inv
+
+-- so there is room for what is left
+pub laid-room : (rest whole out old : List ℕ) (place at : ℕ) → laid rest (pen out place) ≡ laid whole (pen old at)
+    → (length out ≡ length old) × (place + length rest ≡ at + length whole)
+laid-room rest whole out old place at e = (
+  sym (laid-length rest (pen out place)) ∙ ap (λ (p : Pen). length (p .slice)) e ∙ laid-length whole (pen old at),
+  sym (laid-place rest (pen out place)) ∙ ap (λ (p : Pen). p .place) e ∙ laid-place whole (pen old at),
+)
+
 -- a loop that copies: a turn, and the end
 module _ (bytes out : List ℕ) (at i : ℕ) where
   pub copy-turn : i < length bytes → sets (set out (at + i) (getD bytes i 0)) (at + (i + 1)) (drop (i + 1) bytes) ≡ sets out (at + i) (drop i bytes)

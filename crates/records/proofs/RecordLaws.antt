@@ -6,11 +6,13 @@ use mathlib.Core.Path.{_≡_, refl, sym, ap, _∙_}
 use Prim.Native.Nat.{ℕ, _+_, _-_, _≤_, _<_}
 use native.Mathlib.Omega.{arith}
 use lib.Dec.{leb, eqb}
-use lib.ListN.{length, take, drop, length-drop}
+use lib.ListN.{length, take, drop, length-append, length-drop}
 use lib.Seq.{take-all}
 use borrow.Author.Tests.{leb-true, le-leb, lt-leb, eq-eqb, ne-eqb}
-use Rattle.records.specs.Numbers.{u16At, u32At}
-use Rattle.records.specs.Records.{begins, Framed, payloadOf, restOf}
+use Rattle.records.specs.Numbers.{u16, u32, u16At, u32At}
+use Rattle.records.specs.Records.{headOf, recordOf, begins, Framed, payloadOf, restOf}
+use Rattle.records.specs.Laying.{pen, laid}
+use Rattle.records.proofs.LayingLaws.{laid-then}
 use Rattle.loops.proofs.TestLaws.{both}
 
 module _ (kind : ℕ) (b : List ℕ) where
@@ -58,3 +60,20 @@ module _ (b : List ℕ) {n : ℕ} (e : n ≡ u32At b 0) where
   pub rest-part : take (length b - (4 + n)) (drop (4 + n) b) ≡ restOf b
   unfolding restOf
   rest-part = take-all (length b - (4 + n)) (drop (4 + n) b) (omega (arith, length-drop (4 + n) b)) ∙ rw e
+
+-- ---- written
+
+pub length-headOf : (kind size : ℕ) → length (headOf kind size) ≡ 6
+unfolding headOf u32 u16
+length-headOf kind size = refl
+
+pub length-recordOf : (kind : ℕ) (payload : List ℕ) → length (recordOf kind payload) ≡ 6 + length payload
+unfolding recordOf
+length-recordOf kind payload = omega (arith, length-append (headOf kind (length payload)) payload, length-headOf kind (length payload))
+
+-- a head and its payload make a record
+pub laid-record : (kind : ℕ) (payload : List ℕ) (size : ℕ) (old : List ℕ) (at : ℕ) {slice₁ slice₂ : List ℕ} {place₁ place₂ : ℕ} → size ≡ length payload
+    → pen slice₁ place₁ ≡ laid (headOf kind size) (pen old at) → pen slice₂ place₂ ≡ laid payload (pen slice₁ place₁)
+    → pen slice₂ place₂ ≡ laid (recordOf kind payload) (pen old at)
+unfolding recordOf
+laid-record kind payload size old at n e f = rw n at (laid-then (headOf kind size) payload old at e f)

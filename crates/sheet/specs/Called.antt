@@ -1,7 +1,7 @@
 -- A sheet that is asked for its sizes, read or written: refusals, answers, and what every lent slice holds afterwards.
 -- Follows docs/RULES.md, "Sheet" and "Refusals". Assumes nothing.
 use mathlib.Core.Bool.{Bool, not, _||_}
-use mathlib.Core.List.{List, [], _∷_}
+use mathlib.Core.List.{List, [], _∷_, _++_}
 use Prim.Native.Nat.{ℕ, zero, suc, _+_, _*_, _/_}
 use lib.Dec.{ltb}
 use lib.ListN.{length}
@@ -23,18 +23,21 @@ use Rattle.sheet.specs.declared.Written.the-variants as written
 
 -- ---- refusals
 
--- 3, 1, 2, 5 where the lent lengths misfit, 4, 6, 7, and the forbids record by record
+-- 3, 1, 2
+unfoldable pub scalarTests : ℕ → Grid → List Test
+unfolding badCount badSize badWrap
+scalarTests P g = (badCount P gives BadCount) ∷ (badSize (g .width) (g .height) gives BadSize) ∷ (badWrap (g .mode) gives BadWrap) ∷ []
+
+-- 4, 6, 7, and the forbids record by record
+unfoldable pub contentTests : Table → List ℕ → Grid → List ℕ → List Test
+unfolding overWeight badList disagree forbidTests forbidsOf
+contentTests t weights g forbids =
+    (overWeight weights gives BadWeights) ∷ (badList t gives BadList) ∷ (disagree t gives Disagree) ∷ forbidTests t g (forbidsOf forbids)
+
+-- 5, where the lent lengths misfit, stands between
 unfoldable pub sheetTests : Bool → Table → List ℕ → Grid → List ℕ → List Test
-unfolding badCount badSize badWrap overWeight badList disagree forbidTests forbidsOf
-sheetTests misfit t weights g forbids =
-    (badCount (t .count) gives BadCount)
-    ∷ (badSize (g .width) (g .height) gives BadSize)
-    ∷ (badWrap (g .mode) gives BadWrap)
-    ∷ (misfit gives BadLength)
-    ∷ (overWeight weights gives BadWeights)
-    ∷ (badList t gives BadList)
-    ∷ (disagree t gives Disagree)
-    ∷ forbidTests t g (forbidsOf forbids)
+unfolding scalarTests contentTests
+sheetTests misfit t weights g forbids = scalarTests (t .count) g ++ ((misfit gives BadLength) ∷ contentTests t weights g forbids)
 
 -- 10
 abbrev pub formTest : List ℕ → Test

@@ -34,9 +34,14 @@ unfoldable pub listsOf : Table → List (List ℕ)
 unfolding listsFrom
 listsOf t = listsFrom t 0 (4 * t .count)
 
--- forbids as they are stored: any keep but 0 is 1
+-- a keep as it is stored: any but 0 is 1
+unfoldable pub kindOf : ℕ → ℕ
+kindOf keep = cond (eqb keep 0) 0 1
+
+-- forbids as they are stored
 unfoldable pub stored : List ℕ → List ℕ
+unfolding kindOf
 stored [] = []
 stored (c ∷ []) = []
 stored (c ∷ p ∷ []) = []
-stored (c ∷ p ∷ k ∷ l) = c ∷ p ∷ cond (eqb k 0) 0 1 ∷ stored l
+stored (c ∷ p ∷ k ∷ l) = c ∷ p ∷ kindOf k ∷ stored l

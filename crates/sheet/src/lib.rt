@@ -1,11 +1,15 @@
 // Sheets: the stored form of a table, a grid and forbids.
 // Follows docs/RULES.md, "Sheet". Main property: reading undoes writing and writing undoes reading, for every sheet that is accepted.
 ghost use mathlib.Core.Path.{_≡_};
-ghost use Rattle.sheet.specs.Called.{sizesTold, sizesAsked};
+ghost use Rattle.adjacency.specs.Tables.{table};
+ghost use Rattle.grid.specs.Grid.{grid};
+ghost use Rattle.sheet.specs.Called.{sizesTold, sizesAsked, writtenTold, writeOutcome, writeCalled};
 use refusals::Refusal;
 
+mod check;
 mod reading;
 mod shape;
+mod writing;
 
 // How much a sheet holds: patterns, ids, the grid, and forbids.
 pub struct Measures {
@@ -37,4 +41,44 @@ pub fn sizes(sheet: &[u8]) -> SizesAnswer
         return SizesAnswer::Refused(Refusal::BadSheet);
     }
     SizesAnswer::Sheet(reading::measure(sheet))
+}
+
+// The sheet of a table with its weights, a grid and forbids, at the front of `out`; three numbers for each forbid: cell, pattern, and 0 to
+// forbid it or another to keep only it.
+pub fn write(
+    count: usize,
+    weights: &[u32],
+    offsets: &[u32],
+    ids: &[u8],
+    width: usize,
+    height: usize,
+    mode: usize,
+    forbids: &[u32],
+    out: &mut [u8],
+) -> Written
+    ensures { λ r. ⌜ writeOutcome (writtenTold r) (now (out .exit))
+        ≡ writeCalled (table count (now (offsets .entry)) (now (ids .entry))) (now (weights .entry)) (grid width height mode) (now (forbids .entry)) (now (out .entry)) ⌝ }
+{
+    let refusal = check::judge_scalars(count, width, height, mode);
+    if refusal != 0 {
+        return Written::Refused(refusals::inner::refusal(refusal));
+    }
+    if check::write_misfit(count, weights, offsets, ids, forbids, out.len()) {
+        return Written::Refused(Refusal::BadLength);
+    }
+    let refusal = check::judge_content(count, weights, offsets, ids, width, height, mode, forbids);
+    if refusal != 0 {
+        return Written::Refused(refusals::inner::refusal(refusal));
+    }
+    Written::Bytes(writing::lay_sheet(
+        count,
+        weights,
+        offsets,
+        ids,
+        width,
+        height,
+        mode,
+        forbids,
+        out,
+    ))
 }
