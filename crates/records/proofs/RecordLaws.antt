@@ -1,13 +1,13 @@
 -- Laws of records: what a record at the front of bytes tells.
 -- Assumes nothing.
 use mathlib.Core.Bool.{Bool, true, false, _&&_}
-use mathlib.Core.List.{List}
+use mathlib.Core.List.{List, [], _∷_}
 use mathlib.Core.Path.{_≡_, refl, sym, ap, _∙_}
-use Prim.Native.Nat.{ℕ, _+_, _-_, _≤_, _<_}
+use Prim.Native.Nat.{ℕ, zero, suc, _+_, _-_, _≤_, _<_}
 use native.Mathlib.Omega.{arith}
 use lib.Dec.{leb, eqb}
-use lib.ListN.{length, take, drop, length-append, length-drop}
-use lib.Seq.{take-all}
+use lib.ListN.{length, getD, take, drop, length-append, length-drop}
+use lib.Seq.{take-all, getD-drop}
 use borrow.Author.Tests.{leb-true, le-leb, lt-leb, eq-eqb, ne-eqb}
 use Rattle.records.specs.Numbers.{u16, u32, u16At, u32At}
 use Rattle.records.specs.Records.{headOf, recordOf, begins, Framed, payloadOf, restOf}
@@ -77,3 +77,25 @@ pub laid-record : (kind : ℕ) (payload : List ℕ) (size : ℕ) (old : List ℕ
     → pen slice₂ place₂ ≡ laid (recordOf kind payload) (pen old at)
 unfolding recordOf
 laid-record kind payload size old at n e f = rw n at (laid-then (headOf kind size) payload old at e f)
+
+-- ---- parts of bytes are bytes
+
+abbrev pub Bytes : List ℕ → Type 0
+Bytes l = (k : ℕ) → getD l k 0 < 256
+
+pub bytes-drop : (n : ℕ) (l : List ℕ) → Bytes l → Bytes (drop n l)
+bytes-drop n l h k = rw (getD-drop n l k 0) (h (n + k))
+
+pub bytes-take : (n : ℕ) (l : List ℕ) → Bytes l → Bytes (take n l)
+bytes-take zero l h k = omega arith
+bytes-take (suc n) [] h k = omega arith
+bytes-take (suc n) (x ∷ l) h zero = h 0
+bytes-take (suc n) (x ∷ l) h (suc k) = bytes-take n l (λ i. h (suc i)) k
+
+pub bytes-payload : (b : List ℕ) → Bytes b → Bytes (payloadOf b)
+unfolding payloadOf
+bytes-payload b h = bytes-take (u32At b 0 - 2) (drop 6 b) (bytes-drop 6 b h)
+
+pub bytes-rest : (b : List ℕ) → Bytes b → Bytes (restOf b)
+unfolding restOf
+bytes-rest b h = bytes-drop (4 + u32At b 0) b h

@@ -12,7 +12,7 @@ use Rattle.records.specs.Laying.{Pen, pen, laid}
 use Rattle.refusals.specs.declared.Refusal.{Refusal}
 use Rattle.adjacency.specs.Tables.{Table}
 use Rattle.adjacency.specs.Checks.{badCount, weightsMisfit, offsetsMisfit, overWeight, badList, disagree}
-use Rattle.grid.specs.Grid.{Grid, badSize, badWrap}
+use Rattle.grid.specs.Grid.{Grid, grid, badSize, badWrap}
 use Rattle.run.specs.Called.{forbidTests, forbidsOf, recordsIn}
 use Rattle.refusals.specs.declared.Refusal.the-variants.{BadSheet, BadLength}
 use Rattle.refusals.specs.Refusals.{Test, _gives_, number, firstOf, refused, answer}
@@ -20,7 +20,9 @@ use Rattle.sheet.specs.declared.Measures.{Measures}
 use Rattle.sheet.specs.declared.Written.the-variants.{Bytes, Refused}
 use Rattle.sheet.specs.Sheet.{bytesOf}
 use Rattle.sheet.specs.Reading.{wellFormed, sheetIn}
-use Rattle.sheet.specs.Called.{scalarTests, contentTests, sheetTests, formTest, measured, sizesTold, sizesAsked, writeMisfit, writeTests, sheetFor, writtenTold, writeOutcome, writeAt, writeCalled}
+use Rattle.sheet.specs.Called.{scalarTests, contentTests, sheetTests, formTest, measured, sizesTold, sizesAsked, Lent, readMisfit, readTests, filled, readOutcome, readAt, readCalled, writeMisfit, writeTests, sheetFor, writtenTold, writeOutcome, writeAt, writeCalled}
+use Rattle.sheet.specs.Tables.{tableOf}
+use Rattle.sheet.proofs.ReadingLaws.{scalars-is}
 use Rattle.records.proofs.LayingLaws.{laid-over}
 use Rattle.sheet.proofs.WritingLaws.{storable, storable-size}
 use Rattle.refusals.proofs.RefusalLaws.{number-positive, first-append, first-most, first-here, first-next, first-empty, checked-accepted, checked-refused}
@@ -136,3 +138,71 @@ module _ (t : Table) (weights : List ℕ) (g : Grid) (forbids out : List ℕ) wh
           let (S, room) = storable t weights g forbids (length out) scalars lengths e in
           write-accepted (sheet-content (writeMisfit t weights forbids (length out)) t weights g forbids scalars lengths ∙ e)
           (omega (arith, storable-size t weights g forbids S)) f
+
+-- ---- read
+
+pub readMisfit-is : (m : Measures) (weights offsets ids forbids : ℕ) {weight offset id forbid : Bool} → not (eqb weights (m .count)) ≡ weight
+    → not (eqb offsets (4 * m .count + 1)) ≡ offset → ltb ids (m .ids) ≡ id → ltb forbids (3 * m .forbids) ≡ forbid
+    → readMisfit m weights offsets ids forbids ≡ weight || offset || id || forbid
+unfolding readMisfit
+readMisfit-is m weights offsets ids forbids e f g h = rw (e, f, g, h)
+
+module _ (b : List ℕ) (l : Lent) where
+  read-refused : (r : Refusal) → firstOf (readTests b l) ≡ number r → readOutcome (sizesTold (sizes.Refused r)) l ≡ readCalled b l
+  unfolding sizesTold readCalled readAt
+  read-refused r e = sym (rw e (go (number r) (number-positive r)))
+    where
+      go : (n : ℕ) → (n ≡ 0 → ⊥) → readAt n (sheetIn b) l ≡ readOutcome (refused n) l
+      go zero z = absurd (z refl)
+      go (suc n) z = refl
+
+  -- at each end of `read`
+  pub read-form : wellFormed b ≡ false → readOutcome (sizesTold (sizes.Refused BadSheet)) l ≡ readCalled b l
+  unfolding readTests
+  read-form e = read-refused BadSheet (first-here (formTest b) _ (ap not e))
+
+  module _ (e : wellFormed b ≡ true) (m : Measures) (f : m ≡ measured (sheetIn b)) where
+    misfit : Bool
+    misfit = readMisfit (measured (sheetIn b)) (length (l .weights)) (length (l .offsets)) (length (l .ids)) (length (l .forbids))
+
+    read-first : firstOf (readTests b l) ≡ firstOf (sheetTests misfit (tableOf (sheetIn b)) (sheetIn b .weights) (sheetIn b .grid) (sheetIn b .forbids))
+    unfolding readTests misfit
+    read-first = first-next (formTest b) _ (ap not e)
+
+    scalars-told : {n : ℕ} → n ≡ firstOf (scalarTests (m .count) (grid (m .width) (m .height) (m .mode))) → n ≡ firstOf (scalarTests (tableOf (sheetIn b) .count) (sheetIn b .grid))
+    scalars-told g = g ∙ ap firstOf (scalars-is (sheetIn b) m f)
+
+    pub read-scalar : {n : ℕ} → n ≡ firstOf (scalarTests (m .count) (grid (m .width) (m .height) (m .mode))) → (n ≡ 0 → ⊥) → (r : Refusal) → number r ≡ n
+        → readOutcome (sizesTold (sizes.Refused r)) l ≡ readCalled b l
+    read-scalar g z r h =
+        read-refused r
+        (read-first ∙ sheet-scalar misfit (tableOf (sheetIn b)) (sheetIn b .weights) (sheetIn b .grid) (sheetIn b .forbids) (scalars-told g) z ∙ sym h)
+
+    module _ (scalars : firstOf (scalarTests (m .count) (grid (m .width) (m .height) (m .mode))) ≡ 0) where
+      scalars-none : firstOf (scalarTests (tableOf (sheetIn b) .count) (sheetIn b .grid)) ≡ 0
+      scalars-none = sym (scalars-told (sym scalars))
+
+      misfit-told : {v : Bool} → readMisfit m (length (l .weights)) (length (l .offsets)) (length (l .ids)) (length (l .forbids)) ≡ v → misfit ≡ v
+      unfolding misfit
+      misfit-told g = ap (λ (x : Measures). readMisfit x (length (l .weights)) (length (l .offsets)) (length (l .ids)) (length (l .forbids))) (sym f) ∙ g
+
+      pub read-length : readMisfit m (length (l .weights)) (length (l .offsets)) (length (l .ids)) (length (l .forbids)) ≡ true
+          → readOutcome (sizesTold (sizes.Refused BadLength)) l ≡ readCalled b l
+      unfolding number
+      read-length g =
+          read-refused BadLength
+          (read-first ∙ sheet-length misfit (tableOf (sheetIn b)) (sheetIn b .weights) (sheetIn b .grid) (sheetIn b .forbids) scalars-none (misfit-told g))
+
+      module _ (lengths : readMisfit m (length (l .weights)) (length (l .offsets)) (length (l .ids)) (length (l .forbids)) ≡ false) where
+        read-rest : firstOf (readTests b l) ≡ firstOf (contentTests (tableOf (sheetIn b)) (sheetIn b .weights) (sheetIn b .grid) (sheetIn b .forbids))
+        read-rest =
+            read-first ∙ sheet-content misfit (tableOf (sheetIn b)) (sheetIn b .weights) (sheetIn b .grid) (sheetIn b .forbids) scalars-none (misfit-told lengths)
+
+        pub read-content : {n : ℕ} → n ≡ firstOf (contentTests (tableOf (sheetIn b)) (sheetIn b .weights) (sheetIn b .grid) (sheetIn b .forbids))
+            → (r : Refusal) → number r ≡ n → readOutcome (sizesTold (sizes.Refused r)) l ≡ readCalled b l
+        read-content g r h = read-refused r (read-rest ∙ sym g ∙ sym h)
+
+        pub read-done : firstOf (contentTests (tableOf (sheetIn b)) (sheetIn b .weights) (sheetIn b .grid) (sheetIn b .forbids)) ≡ 0 → {l′ : Lent} → l′ ≡ filled (sheetIn b) l
+            → readOutcome (sizesTold (sizes.Sheet m)) l′ ≡ readCalled b l
+        unfolding sizesTold readCalled readAt
+        read-done g h = (λ j. readOutcome (answer (f j)) (h j)) ∙ sym (rw (read-rest ∙ g))

@@ -3,7 +3,7 @@
 use mathlib.Core.Bool.{Bool, not, _||_}
 use mathlib.Core.List.{List, [], _∷_, _++_}
 use Prim.Native.Nat.{ℕ, zero, suc, _+_, _*_, _/_}
-use lib.Dec.{ltb}
+use lib.Dec.{ltb, eqb}
 use lib.ListN.{length}
 use Rattle.records.specs.Laying.{over}
 use Rattle.refusals.specs.declared.Refusal.the-variants.{BadSheet, BadCount, BadSize, BadWrap, BadLength, BadWeights, BadList, Disagree}
@@ -81,23 +81,23 @@ pub record Lent : Type 0 where
 abbrev pub lent : List ℕ → List ℕ → List ℕ → List ℕ → Lent
 lent weights offsets ids forbids = record { weights = weights; offsets = offsets; ids = ids; forbids = forbids }
 
--- a weight for each pattern, 4P + 1 offsets, and room for the ids and the forbids
-unfoldable pub readMisfit : Sheet → Lent → Bool
-unfolding weightsMisfit offsetsMisfit joined
-readMisfit s m =
-    weightsMisfit (length (s .weights)) (m .weights) || offsetsMisfit (length (s .weights)) (m .offsets)
-    || ltb (length (m .ids)) (length (joined (s .lists))) || ltb (length (m .forbids)) (length (s .forbids))
+-- slices of these lengths are not a weight for each pattern and 4P + 1 offsets, or have no room for the ids and the forbids
+unfoldable pub readMisfit : Measures → ℕ → ℕ → ℕ → ℕ → Bool
+readMisfit m weights offsets ids forbids =
+    not (eqb weights (m .count)) || not (eqb offsets (4 * m .count + 1)) || ltb ids (m .ids) || ltb forbids (3 * m .forbids)
 
 unfoldable pub readTests : List ℕ → Lent → List Test
-unfolding wellFormed sheetIn sheetTests readMisfit tableOf
+unfolding wellFormed sheetIn sheetTests measured readMisfit tableOf
 readTests b m =
     let s = sheetIn b in
-    formTest b ∷ sheetTests (readMisfit s m) (tableOf s) (s .weights) (s .grid) (s .forbids)
+    let misfit = readMisfit (measured s) (length (m .weights)) (length (m .offsets)) (length (m .ids)) (length (m .forbids)) in
+    formTest b ∷ sheetTests misfit (tableOf s) (s .weights) (s .grid) (s .forbids)
 
 -- the sheet in the lent slices; what stands past its last id and its last forbid stays
 unfoldable pub filled : Sheet → Lent → Lent
 unfolding tableOf over
-filled s m = lent (s .weights) (tableOf s .offsets) (over (tableOf s .ids) (m .ids)) (over (s .forbids) (m .forbids))
+filled s m =
+    lent (over (s .weights) (m .weights)) (over (tableOf s .offsets) (m .offsets)) (over (tableOf s .ids) (m .ids)) (over (s .forbids) (m .forbids))
 
 -- what a call comes to: what is told, and what the lent slices hold
 pub record ReadOutcome : Type 0 where

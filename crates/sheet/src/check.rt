@@ -1,11 +1,12 @@
-// When a sheet's numbers are refused: the scalars, the lengths that are lent to be written, and the rest. Follows docs/RULES.md, "Refusals".
+// When a sheet's numbers are refused: the scalars, the lengths that are lent, and the rest. Follows docs/RULES.md, "Refusals".
 ghost use mathlib.Core.Path.{_≡_};
 ghost use Prim.Native.Nat.{_+_, _*_, _≤_};
 ghost use lib.ListN.{length};
 ghost use Rattle.refusals.specs.Refusals.{firstOf};
 ghost use Rattle.adjacency.specs.Tables.{table};
 ghost use Rattle.grid.specs.Grid.{grid};
-ghost use Rattle.sheet.specs.Called.{scalarTests, contentTests, writeMisfit};
+ghost use Rattle.sheet.specs.Called.{scalarTests, contentTests, readMisfit, writeMisfit};
+use crate::Measures;
 
 // The number of the first refusal of count and grid, 0 for none.
 pub(crate) fn judge_scalars(count: usize, width: usize, height: usize, mode: usize) -> u32
@@ -76,4 +77,27 @@ pub(crate) fn write_misfit(
         return true;
     }
     room - fixed < ids.len()
+}
+
+// Whether slices of these lengths have not the published length, or no room for a sheet of these measures.
+pub(crate) fn read_misfit(
+    m: Measures,
+    weights: usize,
+    offsets: usize,
+    ids: usize,
+    forbids: usize,
+) -> bool
+    requires { ⌜ (m .count ≤ 64) × (m .forbids ≤ 4096) ⌝ }
+    ensures { λ r. ⌜ r ≡ readMisfit m weights offsets ids forbids ⌝ }
+{
+    if weights != m.count {
+        return true;
+    }
+    if offsets != 4 * m.count + 1 {
+        return true;
+    }
+    if ids < m.ids {
+        return true;
+    }
+    forbids < 3 * m.forbids
 }

@@ -3,7 +3,7 @@
 ghost use mathlib.Core.Path.{_≡_};
 ghost use Rattle.adjacency.specs.Tables.{table};
 ghost use Rattle.grid.specs.Grid.{grid};
-ghost use Rattle.sheet.specs.Called.{sizesTold, sizesAsked, writtenTold, writeOutcome, writeCalled};
+ghost use Rattle.sheet.specs.Called.{sizesTold, sizesAsked, lent, readOutcome, readCalled, writtenTold, writeOutcome, writeCalled};
 use refusals::Refusal;
 
 mod check;
@@ -41,6 +41,36 @@ pub fn sizes(sheet: &[u8]) -> SizesAnswer
         return SizesAnswer::Refused(Refusal::BadSheet);
     }
     SizesAnswer::Sheet(reading::measure(sheet))
+}
+
+// The sheet's weights, offsets, ids and forbids in the lent slices, and how much it holds.
+pub fn read(
+    sheet: &[u8],
+    weights: &mut [u32],
+    offsets: &mut [u32],
+    ids: &mut [u8],
+    forbids: &mut [u32],
+) -> SizesAnswer
+    ensures { λ r. ⌜ readOutcome (sizesTold r) (lent (now (weights .exit)) (now (offsets .exit)) (now (ids .exit)) (now (forbids .exit)))
+        ≡ readCalled (now (sheet .entry)) (lent (now (weights .entry)) (now (offsets .entry)) (now (ids .entry)) (now (forbids .entry))) ⌝ }
+{
+    if !shape::well_formed(sheet) {
+        return SizesAnswer::Refused(Refusal::BadSheet);
+    }
+    let m = reading::measure(sheet);
+    let refusal = check::judge_scalars(m.count, m.width, m.height, m.mode);
+    if refusal != 0 {
+        return SizesAnswer::Refused(refusals::inner::refusal(refusal));
+    }
+    if check::read_misfit(m, weights.len(), offsets.len(), ids.len(), forbids.len()) {
+        return SizesAnswer::Refused(Refusal::BadLength);
+    }
+    let refusal = reading::judge_sheet(sheet);
+    if refusal != 0 {
+        return SizesAnswer::Refused(refusals::inner::refusal(refusal));
+    }
+    reading::fill(sheet, weights, offsets, ids, forbids);
+    SizesAnswer::Sheet(m)
 }
 
 // The sheet of a table with its weights, a grid and forbids, at the front of `out`; three numbers for each forbid: cell, pattern, and 0 to

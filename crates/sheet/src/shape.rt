@@ -1,8 +1,8 @@
 // Whether bytes are a sheet, and where its records are. Follows docs/RULES.md, "Sheet".
 ghost use mathlib.Core.Bool.{true};
 ghost use mathlib.Core.Path.{_≡_};
-ghost use Prim.Native.Nat.{_≤_, _<_};
-ghost use lib.ListN.{length};
+ghost use Prim.Native.Nat.{_<_};
+ghost use lib.ListN.{drop};
 ghost use Rattle.records.specs.Numbers.{numbersIn};
 ghost use Rattle.records.specs.Records.{payloadOf};
 ghost use Rattle.sheet.specs.Reading.{fromLists, fromGrid, fromForbids, Frames, framed, countIn, weightsFit, listsFit, kindsFit, forbidsFit, wellFormed};
@@ -34,6 +34,15 @@ fn framed(sheet: &[u8]) -> bool
         return false;
     }
     rest_of(forbids).len() == 0
+}
+
+// The weights of the first record, past P.
+pub(crate) fn weights_of(sheet: &[u8]) -> &[u8]
+    requires { ⌜ Frames (now sheet) × (weightsFit (payloadOf (now sheet)) ≡ true) ⌝ }
+    ensures { λ r. ⌜ now r ≡ drop 2 (payloadOf (now (sheet .entry))) ⌝ }
+{
+    let payload = payload_of(sheet);
+    &payload[2..]
 }
 
 // What the second record holds.
