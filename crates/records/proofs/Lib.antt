@@ -1,3 +1,4 @@
 pub mod RecordLaws
 pub mod LayingLaws
 pub mod NumberLaws
+pub mod BackLaws
