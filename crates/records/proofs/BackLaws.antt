@@ -1,17 +1,17 @@
 -- What is written is read back, and what is read is written back: numbers and records.
 -- Assumes nothing.
-use mathlib.Core.Bool.{Bool, true, _&&_}
-use mathlib.Core.List.{List, [], _∷_, _++_, append-assoc}
+use mathlib.Core.Bool.{true}
+use mathlib.Core.List.{List, [], _∷_, _++_}
 use mathlib.Core.Path.{_≡_, refl, sym, ap, _∙_}
-use Prim.Native.Nat.{ℕ, zero, suc, _+_, _-_, _*_, _/_, _%_, _≤_, _<_}
+use Prim.Native.Nat.{ℕ, suc, _+_, _-_, _*_, _/_, _%_, _≤_, _<_}
 use native.Mathlib.Omega.{arith}
 use lib.Dec.{leb, eqb}
-use lib.ListN.{length, getD, take, drop, length-append, length-drop, take-append-drop}
+use lib.ListN.{length, take, drop, length-append, take-append-drop}
 use lib.Seq.{length-take-le, take-at, drop-at}
-use borrow.Author.Tests.{le-leb, eq-eqb, leb-true, eqb-true}
-use Rattle.loops.proofs.TestLaws.{both}
+use borrow.Author.Tests.{le-leb, eq-eqb, eqb-true}
 use Rattle.records.specs.Numbers.{u16, u32, u16s, u16At, u32At, numbersIn}
-use Rattle.records.specs.Records.{headOf, recordOf, Framed, begins, payloadOf, restOf}
+use Rattle.records.specs.Records.{headOf, recordOf, begins, payloadOf, restOf}
+use Rattle.loops.proofs.TestLaws.{both}
 use Rattle.records.proofs.RecordLaws.{Bytes, begins-is, begins-framed}
 
 -- ---- numbers

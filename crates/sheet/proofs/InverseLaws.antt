@@ -1,23 +1,23 @@
 -- Reading undoes writing, and writing undoes reading: for a sheet and its bytes. Follows docs/RULES.md, "Sheet".
 -- Assumes nothing.
-use mathlib.Core.Bool.{Bool, true, false, _&&_, false≢true}
+use mathlib.Core.Bool.{true, false≢true}
 use mathlib.Core.List.{List, [], _∷_, _++_, append-nil}
 use mathlib.Core.Path.{_≡_, refl, sym, ap, _∙_}
-use Prim.Native.Nat.{ℕ, zero, suc, _+_, _-_, _*_, _/_, _%_, _≤_, _<_}
+use Prim.Native.Nat.{ℕ, zero, suc, _+_, _*_, _/_, _%_, _≤_}
 use native.Mathlib.Omega.{arith}
 use lib.Dec.{leb, eqb}
-use lib.ListN.{length, getD, take, drop, length-append, take-append-drop}
+use lib.ListN.{length, take, drop, length-append, take-append-drop}
 use lib.Seq.{length-take-le, take-append-seam, drop-append-seam}
-use borrow.Author.Tests.{le-leb, eq-eqb, leb-true, eqb-true}
-use Rattle.loops.proofs.TestLaws.{both}
+use borrow.Author.Tests.{le-leb, eq-eqb, leb-true}
 use Rattle.records.specs.Numbers.{u16s, u16At, numbersIn}
 use Rattle.records.specs.Records.{recordOf, begins, payloadOf, restOf}
-use Rattle.records.proofs.NumberLaws.{length-u16s}
-use Rattle.records.proofs.RecordLaws.{Bytes, bytes-payload, bytes-rest}
-use Rattle.records.proofs.BackLaws.{u16-number, numbersIn-u16s, u16s-numbersIn, begins-recordOf, payloadOf-recordOf, restOf-recordOf, recordOf-begins}
 use Rattle.grid.specs.Grid.{Grid, grid}
 use Rattle.sheet.specs.Sheet.{Sheet, sheet, listBytes, bytesOf}
 use Rattle.sheet.specs.Reading.{fromLists, fromGrid, fromForbids, framed, countIn, weightsFit, listsFit, gridFits, kindsFit, forbidsFit, wellFormed, listsIn, gridIn, sheetIn}
+use Rattle.loops.proofs.TestLaws.{both}
+use Rattle.records.proofs.NumberLaws.{length-u16s}
+use Rattle.records.proofs.RecordLaws.{Bytes, bytes-payload, bytes-rest}
+use Rattle.records.proofs.BackLaws.{u16-number, numbersIn-u16s, u16s-numbersIn, begins-recordOf, payloadOf-recordOf, restOf-recordOf, recordOf-begins}
 use Rattle.sheet.proofs.ShapeLaws.{framed-is, wellFormed-is, weights-length, weights-long, forbids-is, Formed, formed}
 use Rattle.sheet.proofs.ReadingLaws.{count-is}
 

@@ -110,7 +110,7 @@ kind-most keep = go (eqb keep 0)
 pub kind-small : (keep : ℕ) → kindOf keep < 65536
 kind-small keep = omega (arith, kind-most keep)
 
-stored-three : (fs : List ℕ) → length (stored fs) ≡ 3 * (length fs / 3)
+pub stored-three : (fs : List ℕ) → length (stored fs) ≡ 3 * (length fs / 3)
 unfolding stored
 stored-three [] = refl
 stored-three (c ∷ []) = refl
