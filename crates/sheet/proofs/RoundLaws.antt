@@ -46,6 +46,11 @@ module _ (misfit : Bool) (t : Table) (weights : List ℕ) (g : Grid) (forbids : 
       let (count, (size, (wrap, (lengths, (heavy, (list, (agreement, placed))))))) = first-passed (sheetTests misfit t weights g forbids) e in
       (passed-first (scalarTests (t .count) g) (count, (size, (wrap, tt))), lengths, passed-first (contentTests t weights g forbids) (heavy, (list, (agreement, placed))))
 
+-- the tests of a sheet that is read, but for its form
+abbrev testsOf : Lent → Sheet → List Test
+testsOf l s =
+    sheetTests (readMisfit (measured s) (length (l .weights)) (length (l .offsets)) (length (l .ids)) (length (l .forbids))) (tableOf s) (s .weights) (s .grid) (s .forbids)
+
 -- ---- what was written is read
 
 listsFrom-length : (t : Table) (k n : ℕ) → length (listsFrom t k n) ≡ n
@@ -102,8 +107,8 @@ module _ (t : Table) (weights : List ℕ) (g : Grid) (forbids : List ℕ) (room 
       let count : firstOf (scalarTests (tableOf s .count) g) ≡ 0 = ap (λ (x : Table). firstOf (scalarTests (x .count) g)) (table-written t weights g forbids S) ∙ scalars in
       let rest : firstOf (contentTests (tableOf s) weights g (stored forbids)) ≡ 0 = ap firstOf (content-written t weights g forbids S) ∙ content in
       let passes : firstOf (readTests b l) ≡ 0 =
-      first-next (formTest b) _ (ap not good)
-      ∙ ap (λ (x : Sheet). firstOf (sheetTests (readMisfit (measured x) (length (l .weights)) (length (l .offsets)) (length (l .ids)) (length (l .forbids))) (tableOf x) (x .weights) (x .grid) (x .forbids))) same
+      first-next (formTest b) (testsOf l (sheetIn b)) (ap not good)
+      ∙ ap (λ (x : Sheet). firstOf (testsOf l x)) same
       ∙ sheet-content misfit (tableOf s) weights g (stored forbids) count fits ∙ rest in
       ap (λ (n : ℕ). readAt n (sheetIn b) l) passes
       ∙ ap (λ (x : Sheet). readOutcome (answer (measured x)) (filled x l)) same
