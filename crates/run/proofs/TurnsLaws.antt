@@ -29,14 +29,14 @@ use Rattle.run.proofs.CourseLaws.{chosen-fewer, reached-counted, reache
 
 -- ---- one turn, and where it leaves the turns
 
--- where a turn that was so leaves them
+-- where a turn that is over leaves them, and one that goes on; b is whether a cell was emptied
 pub stop-over : {step : Step} {end : ℕ} (used : ℕ) → step ≡ Over end → record { end = end; used = used } ≡ stopOf step used
 stop-over used q = sym (ap (λ (x : Step). stopOf x used) q)
 
 pub stop-on : {step : Step} {pile : Pile} {b : Bool} (used : ℕ) → step ≡ On pile → pile .empty ≡ b → record { end = cond b 3 4; used = used + 1 } ≡ stopOf step used
 stop-on {step} {pile} used q e = sym (ap (λ (x : Step). stopOf x used) q ∙ ap (λ (x : Bool). record { end = cond x 3 4; used = used + 1 }) e)
 
--- a turn that goes on has used a word that there is
+-- a turn that goes on used a word, so one more can be counted
 pub word-left : (i : Given) (words : List ℕ) (used : ℕ) (s : State Beside) (state : Pile → State Beside) {step : Step} {pile : Pile} → step ≡ On pile
     → turnOf step used state ≡ turn i words used s → used < length words
 word-left i words used s state q e = turn-on i words used s (sym e ∙ ap (λ (x : Step). turnOf x used state) q) .left
@@ -48,7 +48,7 @@ turn-empty i words used s e = rw e
 
 -- ---- between two turns
 
--- nothing is pending, and no cell was emptied
+-- a pile with nothing pending, where no cell was emptied
 pile-idle : (P : ℕ) (Q : List ℕ) (pile : Pile) → pile .empty ≡ false → pendingOf P Q (pile .top) ≡ [] → pile ≡ idle
 pile-idle P Q pile e k = λ j. record { top = low j; empty = e j }
   where
@@ -66,6 +66,12 @@ pub record Turns (i : Given) (words : List ℕ) (m₀ m : Memory) (stop : Stop) 
 abbrev pub unended : ℕ → List ℕ → Stop → ℕ
 unended n D stop = cond (eqb (stop .end) 4) (openCells n D + 1) 0
 
+-- from where forbids lead, the turns are the whole run
+pub laid-run : {i : Given} {s : State Beside} (words : List ℕ) (L : Laid i s) → collapse i words (cells (i .grid) + 1) 0 s ≡ runOf i (L .forbids) words
+unfolding runOf
+laid-run {i} words L = ap (λ (s : State Beside). collapse i words (cells (i .grid) + 1) 0 s) (L .is)
+
+-- the turns start where the forbids lead
 pub turns-start : {i : Given} {words : List ℕ} {m : Memory} → Laid i (stateIn (i .table .count) m idle) → Turns i words m m (record { end = 4; used = 0 })
 turns-start {i} {words} {m} L =
     record {
@@ -75,6 +81,7 @@ turns-start {i} {words} {m} L =
       kept = (refl, (refl, (refl, (refl, (refl, tt)))));
     }
 
+-- as long as they were before the last turn, and so as at entry
 same-after : (m₀ m m′ : Memory) {R : Type 0} → Same m₀ m (Unit {0}) → Same m m′ R → Same m₀ m′ (Unit {0})
 same-after m₀ m m′ (a, (b, (c, (d, (e, _))))) (a′, (b′, (c′, (d′, (e′, _))))) = (a′ ∙ a, (b′ ∙ b, (c′ ∙ c, (d′ ∙ d, (e′ ∙ e, tt)))))
 
@@ -94,15 +101,11 @@ module _ {i : Given} {words : List ℕ} {m₀ m : Memory} {stop : Stop} (T : Tur
       (reached-stands i (T .laid .forbids) (T .laid .lawful) (T .going z .1) .settled .safe))
       (T .kept .1 .1 .0))
 
-  -- the run from the entry, and from a state that is reached
-  run-entry : collapse i words (cells (i .grid) + 1) 0 (stateIn (i .table .count) m₀ idle) ≡ runOf i (T .laid .forbids) words
-  unfolding runOf
-  run-entry = ap (λ (s : State Beside). collapse i words (cells (i .grid) + 1) 0 s) (T .laid .is)
-
+  -- a turn that is over at a state that is reached ends the run
   run-over : {k used : ℕ} {s : State Beside} {e : Ended} → Reached i (T .laid .forbids) words k used s → turn i words used s ≡ Turn.over e
       → e ≡ collapse i words (cells (i .grid) + 1) 0 (stateIn (i .table .count) m₀ idle)
   run-over {k} {used} {s} r q =
-      sym (run-entry ∙ reached-run i (T .laid .forbids) (T .laid .lawful) words r
+      sym (laid-run words (T .laid) ∙ reached-run i (T .laid .forbids) (T .laid .lawful) words r
       ∙ ap (λ (fuel : ℕ). collapse i words fuel used s) left ∙ collapse-over i words used s (cells (i .grid) - k) q)
     where
       left : cells (i .grid) + 1 - k ≡ suc (cells (i .grid) - k)
