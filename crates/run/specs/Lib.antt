@@ -1,5 +1,4 @@
-pub mod Observer
-pub mod Choice
+pub mod Asked
 pub mod Run
 pub mod Course
 pub mod Called

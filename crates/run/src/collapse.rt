@@ -9,11 +9,11 @@ ghost use Rattle.grid.specs.Grid.{grid, cells};
 ghost use Rattle.propagation.specs.Beside.{beside};
 ghost use Rattle.propagation.specs.Lent.{stateOf, Lent, Room, Roomy, Ground};
 ghost use Rattle.run.specs.declared.collapse.Step.{Step};
-ghost use Rattle.run.specs.Choice.{taken};
+ghost use Rattle.choice.specs.Choice.{taken};
 ghost use Rattle.run.specs.Run as run;
 ghost use Rattle.run.specs.Run.{given};
 ghost use Rattle.run.specs.Steps.{idle, turnOf, stopOf, Laid, endedAs};
-use crate::inner::Observed;
+use choice::inner::Observed;
 use propagation::inner::Pile;
 
 // What a turn comes to: the run is over with this end, or it goes on with one more word used.
@@ -72,7 +72,7 @@ fn choose_at(
 {
     let domain = domains[cell];
     let sum = adjacency::inner::weight_sum(weights, domain);
-    let pattern = crate::inner::choose(weights, domain, word % sum);
+    let pattern = choice::inner::choose(weights, domain, word % sum);
     crate::laying::lay(
         count,
         offsets,
@@ -120,7 +120,7 @@ fn turn(
         ≡ run.turn (given (table count (now (offsets .entry)) (now (ids .entry))) (now (weights .entry)) (grid width height mode) (now (noise .entry))) (now (words .entry)) used
         (stateOf count (now (domains .entry)) (now (counts .entry)) (now (pending .entry)) idle (beside (now (floats .entry)) (now (marks .entry)))) ⌝ }
 {
-    match crate::inner::observe(domains.len(), noise, domains, floats, marks, weighted) {
+    match choice::inner::observe(domains.len(), noise, domains, floats, marks, weighted) {
         Observed::Nothing => {
             if decided(domains) {
                 return Step::Over(0);

@@ -1,14 +1,12 @@
 // The run: observe, choose, forbid and collapse.
 ghost use mathlib.Core.Path.{_≡_};
-ghost use Rattle.run.specs.Choice.{choiceTold, choiceAsked};
+ghost use Rattle.run.specs.Asked.{choiceTold, choiceAsked};
 use refusals::Refusal;
 use refusals::Verdict;
 
 mod check;
 mod collapse;
-pub mod inner;
 mod laying;
-mod observer;
 mod start;
 
 pub struct Forbid {
@@ -43,7 +41,7 @@ pub fn choice_of(count: usize, weights: &[u32], domain: u64, word: u32) -> Choic
             if sum == 0 {
                 return Choice::Nothing;
             }
-            Choice::Pattern(inner::choose(weights, domain, word % sum))
+            Choice::Pattern(choice::inner::choose(weights, domain, word % sum))
         }
     }
 }

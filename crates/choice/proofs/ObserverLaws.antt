@@ -19,11 +19,11 @@ use Rattle.words.specs.Words.{howMany}
 use Rattle.order.specs.Numbers.{Number, Numbers}
 use Rattle.order.specs.Order.{beats}
 use Rattle.adjacency.specs.Weights.{weightSum, mask}
-use Rattle.run.specs.declared.observer.Best.{Best}
-use Rattle.run.specs.declared.observer.Best.the-variants.{At, Empty}
-use Rattle.run.specs.declared.inner.Observed.{Observed}
-use Rattle.run.specs.declared.inner.Observed.the-variants.{Cell, Nothing}
-use Rattle.run.specs.Observer.{Notes, notesIn, Lengths, valid, entropyAt, noiseAt, countsAt, join, candidate, bestIn, observedAs, observe}
+use Rattle.choice.specs.declared.observer.Best.{Best}
+use Rattle.choice.specs.declared.observer.Best.the-variants.{At, Empty}
+use Rattle.choice.specs.declared.inner.Observed.{Observed}
+use Rattle.choice.specs.declared.inner.Observed.the-variants.{Cell, Nothing}
+use Rattle.choice.specs.Observer.{Notes, notesIn, Lengths, valid, entropyAt, noiseAt, countsAt, join, candidate, bestIn, observedAs, observe}
 use Rattle.loops.proofs.TestLaws.{both}
 use Rattle.words.proofs.CountLaws.{many-none}
 use Rattle.order.proofs.OrderLaws.{lt-irreflexive}

@@ -10,7 +10,7 @@ use native.Mathlib.Omega.{arith}
 use lib.Dec.{ltb}
 use lib.ListN.{length, getD, length-append, List·getD-append}
 use borrow.Author.Tests.{ltb-true, ltb-false, lt-ltb}
-use Rattle.run.specs.Choice.{Draw, draw}
+use Rattle.choice.specs.Choice.{Draw, draw}
 
 module _ (words : List ℕ) (used sum : ℕ) where
   -- the word after those used, modulo the sum

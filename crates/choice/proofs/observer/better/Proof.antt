@@ -3,9 +3,9 @@
 use borrow.Author.Needs.{needs}
 use borrow.Author.Tests.{lt-ltb, le-ltb}
 use Rattle.order.specs.Order.{beats}
-use Rattle.run.specs.Observer.{join}
-use Rattle.run.proofs.observer.better.Statement.{statement}
-use Rattle.run.proofs.observer.better.Tie as tie
+use Rattle.choice.specs.Observer.{join}
+use Rattle.choice.proofs.observer.better.Statement.{statement}
+use Rattle.choice.proofs.observer.better.Tie as tie
 
 enum-told : tie.Need-enum-told
 enum-told c = search needs

@@ -1,9 +1,9 @@
 -- `run::observer::step` meets its contract: whether the note counts decides whether the cell is a candidate.
 -- Assumes nothing.
 use borrow.Author.Needs.{needs}
-use Rattle.run.proofs.ObserverLaws.{step-held, step-passed}
-use Rattle.run.proofs.observer.step.Statement.{statement}
-use Rattle.run.proofs.observer.step.Tie as tie
+use Rattle.choice.proofs.ObserverLaws.{step-held, step-passed}
+use Rattle.choice.proofs.observer.step.Statement.{statement}
+use Rattle.choice.proofs.observer.step.Tie as tie
 
 shared-slice-read-wide : tie.Need-shared-slice-read-wide
 shared-slice-read-wide c = search needs

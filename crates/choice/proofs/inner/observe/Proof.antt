@@ -1,9 +1,9 @@
 -- `run::inner::observe` meets its contract: the best of all cells is told without its noise word.
 -- Assumes nothing.
 use borrow.Author.Needs.{needs}
-use Rattle.run.proofs.ObserverLaws.{scan-observed}
-use Rattle.run.proofs.inner.observe.Statement.{statement}
-use Rattle.run.proofs.inner.observe.Tie as tie
+use Rattle.choice.proofs.ObserverLaws.{scan-observed}
+use Rattle.choice.proofs.inner.observe.Statement.{statement}
+use Rattle.choice.proofs.inner.observe.Tie as tie
 
 scan-requires : tie.Need-scan-requires
 scan-requires c κs = search needs

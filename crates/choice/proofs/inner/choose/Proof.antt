@@ -6,9 +6,9 @@ use native.Mathlib.Omega.{arith}
 use lib.ListN.{length}
 use Rattle.words.specs.Words.{bit}
 use Rattle.words.proofs.ChangeLaws.{without-less}
-use Rattle.run.proofs.ChoiceLaws.{Walked, walked-start, walked-at, walked-on, walked-end}
-use Rattle.run.proofs.inner.choose.Statement.{statement}
-use Rattle.run.proofs.inner.choose.Tie as tie
+use Rattle.choice.proofs.ChoiceLaws.{Walked, walked-start, walked-at, walked-on, walked-end}
+use Rattle.choice.proofs.inner.choose.Statement.{statement}
+use Rattle.choice.proofs.inner.choose.Tie as tie
 
 abbrev Inv-loop : tie.InvT-loop
 Inv-loop weights word number left₀ r₀ p₀ left r p = Walked weights word number left r p

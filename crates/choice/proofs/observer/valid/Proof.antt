@@ -5,9 +5,9 @@ use lib.Bits.{bitAnd}
 use borrow.Author.Needs.{needs}
 use borrow.Author.Tests.{eq-eqb, ne-eqb}
 use Rattle.words.specs.Words.{howMany}
-use Rattle.run.specs.Observer.{valid}
-use Rattle.run.proofs.observer.valid.Statement.{statement}
-use Rattle.run.proofs.observer.valid.Tie as tie
+use Rattle.choice.specs.Observer.{valid}
+use Rattle.choice.proofs.observer.valid.Statement.{statement}
+use Rattle.choice.proofs.observer.valid.Tie as tie
 
 returns : tie.Need-returns
 unfolding valid

@@ -3,10 +3,10 @@
 use mathlib.Core.Path.{_≡_}
 use Prim.Native.Nat.{_-_, _≤_}
 use native.Mathlib.Omega.{arith}
-use Rattle.run.specs.Observer.{notesIn, bestIn}
-use Rattle.run.proofs.ObserverLaws.{scan-start, scan-turn}
-use Rattle.run.proofs.observer.scan.Statement.{statement}
-use Rattle.run.proofs.observer.scan.Tie as tie
+use Rattle.choice.specs.Observer.{notesIn, bestIn}
+use Rattle.choice.proofs.ObserverLaws.{scan-start, scan-turn}
+use Rattle.choice.proofs.observer.scan.Statement.{statement}
+use Rattle.choice.proofs.observer.scan.Tie as tie
 
 abbrev Inv-loop : tie.InvT-loop
 Inv-loop cells noise domains floats marks weighted start end best₀ c₀ best c =

@@ -4,9 +4,9 @@ use mathlib.Core.List.{List, [], _∷_}
 use mathlib.Core.Path.{_≡_, refl}
 use Prim.Native.Nat.{ℕ}
 use lib.Ieee.{Float, binary32, ofBits, lt, eq}
-use Rattle.run.specs.declared.inner.Observed.{Observed}
-use Rattle.run.specs.declared.inner.Observed.the-variants.{Cell, Nothing}
-use Rattle.run.specs.Observer.{notes, observe}
+use Rattle.choice.specs.declared.inner.Observed.{Observed}
+use Rattle.choice.specs.declared.inner.Observed.the-variants.{Cell, Nothing}
+use Rattle.choice.specs.Observer.{notes, observe}
 
 -- 1, a half, and a half below zero
 abbrev one : Float

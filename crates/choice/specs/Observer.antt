@@ -11,10 +11,10 @@ use lib.Ieee.{Float, nan}
 use lib.ListN.{length, getD, take, drop}
 use Rattle.order.specs.Order.{beats}
 use Rattle.words.specs.Words.{howMany}
-use Rattle.run.specs.declared.observer.Best.{Best}
-use Rattle.run.specs.declared.observer.Best.the-variants.{At, Empty}
-use Rattle.run.specs.declared.inner.Observed.{Observed}
-use Rattle.run.specs.declared.inner.Observed.the-variants.{Cell, Nothing}
+use Rattle.choice.specs.declared.observer.Best.{Best}
+use Rattle.choice.specs.declared.observer.Best.the-variants.{At, Empty}
+use Rattle.choice.specs.declared.inner.Observed.{Observed}
+use Rattle.choice.specs.declared.inner.Observed.the-variants.{Cell, Nothing}
 
 -- what the observer reads: an entropy, a noise word, a weighted count and a domain for each cell, and the word of the weighted patterns
 pub record Notes : Type 0 where

@@ -3,7 +3,7 @@
 // so one note for each cell decides. Main property: the cell found is the least of those whose note counts.
 ghost use mathlib.Core.Path.{_≡_};
 ghost use Prim.Native.Nat.{_-_, _≤_, _<_};
-ghost use Rattle.run.specs.Observer.{Lengths, notesIn, valid, join, candidate, bestIn};
+ghost use Rattle.choice.specs.Observer.{Lengths, notesIn, valid, join, candidate, bestIn};
 
 // The best cell so far, with its entropy and its noise word.
 pub(crate) enum Best {

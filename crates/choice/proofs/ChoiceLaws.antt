@@ -1,11 +1,11 @@
 -- Laws of the choice: a number below the weight sum takes the pattern in whose share of the sum it falls, which is a weighted pattern of the word;
--- the walk from one pattern of the word to the next; and what is answered apart from a run. Follows docs/RULES.md, "Run".
+-- and the walk from one pattern of the word to the next. Follows docs/RULES.md, "Run".
 -- Assumes nothing.
 use mathlib.Core.Bool.{Bool, true, false, cond}
 use mathlib.Core.List.{List}
 use mathlib.Core.Option.{Option, none, some}
 use mathlib.Core.Path.{_≡_, refl, sym, ap, _∙_, subst}
-use Prim.Native.Nat.{ℕ, zero, suc, _+_, _-_, _*_, _%_, _^_, _≤_, _<_, suc-le-suc}
+use Prim.Native.Nat.{ℕ, zero, suc, _+_, _-_, _*_, _^_, _≤_, _<_, suc-le-suc}
 use native.Mathlib.Decide.{ℕ-discrete}
 use native.Mathlib.Nat.{add-zero, zero-add, sub-zero, sub-add-eq, zero-mul, one-mul, le-antisymm, le-of-suc-le-suc, lt-of-not-le}
 use native.Mathlib.Omega.{arith}
@@ -14,18 +14,12 @@ use lib.ListN.{length}
 use borrow.Author.Tests.{ltb-true, ltb-false}
 use Rattle.loops.specs.Sums.{sumTo}
 use Rattle.words.specs.Words.{bit, without, least}
-use Rattle.refusals.specs.declared.Refusal.{Refusal}
-use Rattle.refusals.specs.Refusals.{answer, number}
 use Rattle.adjacency.specs.Weights.{Bounded, weightOf, weightSum}
-use Rattle.logarithms.specs.Asked.{domainTests, domainRefusal}
-use Rattle.run.specs.declared.Choice.{Choice}
-use Rattle.run.specs.declared.Choice.the-variants.{Pattern, Nothing, Refused}
-use Rattle.run.specs.Choice.{weightIn, takenFrom, taken, takenIf, choiceOf, choiceTold, choiceAsked}
+use Rattle.choice.specs.Choice.{weightIn, takenFrom, taken}
 use Rattle.loops.proofs.SumLaws.{sum-at, sum-upTo, sum-zero}
 use Rattle.words.proofs.BitLaws.{bit-not}
 use Rattle.words.proofs.ChangeLaws.{bit-without, bit-without-other, without-le}
 use Rattle.words.proofs.LeastLaws.{least-below, least-found}
-use Rattle.refusals.proofs.RefusalLaws.{number-injective, checked-accepted, checked-refused}
 use Rattle.adjacency.proofs.WeightLaws.{weight-inside, weightSum-none, weightSum-without}
 
 -- ---- the weight of a pattern in a word
@@ -169,52 +163,3 @@ module _ {ws : List ℕ} {word number left r p : ℕ} (few : length ws ≤ 64) (
 
   pub walked-end : r < weightOf ws p → some p ≡ taken ws word number
   walked-end h = sym (taken-here ws left r p (walked-at .1) none-before h) ∙ s .same
-
--- ---- asked apart from a run
-
-module _ (ws : List ℕ) (w word : ℕ) where
-  pub choiceOf-none : weightSum ws w ≡ 0 → choiceOf ws w word ≡ none
-  unfolding choiceOf takenIf
-  choiceOf-none e = rw e
-
-  pub choiceOf-some : (weightSum ws w ≡ 0 → ⊥) → choiceOf ws w word ≡ taken ws w (word % weightSum ws w)
-  unfolding choiceOf takenIf
-  choiceOf-some n = go (weightSum ws w) n
-    where
-      go : (s : ℕ) → (s ≡ 0 → ⊥) → takenIf s ws w word ≡ taken ws w (word % s)
-      go zero n = absurd (n refl)
-      go (suc s) n = refl
-
-module _ (P : ℕ) (ws : List ℕ) (w word : ℕ) where
-  pub told-refused : (r : Refusal) → domainRefusal P ws w ≡ number r → choiceTold (Refused r) ≡ choiceAsked P ws w word
-  unfolding choiceTold choiceAsked domainRefusal
-  told-refused r e = sym (checked-refused (domainTests P ws w) (choiceOf ws w word) r e)
-
-  module _ (accepted : domainRefusal P ws w ≡ 0) where
-    asked-accepted : choiceAsked P ws w word ≡ answer (choiceOf ws w word)
-    unfolding choiceAsked domainRefusal
-    asked-accepted = checked-accepted (domainTests P ws w) (choiceOf ws w word) accepted
-
-    pub told-nothing : weightSum ws w ≡ 0 → choiceTold Nothing ≡ choiceAsked P ws w word
-    unfolding choiceTold
-    told-nothing z = sym (asked-accepted ∙ ap answer (choiceOf-none ws w word z))
-
-    pub told-pattern : {p : ℕ} → (weightSum ws w ≡ 0 → ⊥) → some p ≡ taken ws w (word % weightSum ws w) → choiceTold (Pattern p) ≡ choiceAsked P ws w word
-    unfolding choiceTold
-    told-pattern n e = sym (asked-accepted ∙ ap answer (choiceOf-some ws w word n ∙ sym e))
-
-pub choiceTold-injective : (a b : Choice) → choiceTold a ≡ choiceTold b → a ≡ b
-unfolding choiceTold
-choiceTold-injective (Pattern p) (Pattern q) e = cc
-choiceTold-injective (Pattern p) Nothing e = cc
-choiceTold-injective (Pattern p) (Refused s) e = cc
-choiceTold-injective Nothing (Pattern q) e = cc
-choiceTold-injective Nothing Nothing e = refl
-choiceTold-injective Nothing (Refused s) e = cc
-choiceTold-injective (Refused r) (Pattern q) e = cc
-choiceTold-injective (Refused r) Nothing e = cc
-choiceTold-injective (Refused r) (Refused s) e = ap Refused (number-injective r s (cc))
-
--- two calls of `choice_of` with the same words are told the same
-pub choice-of-unique : (P : ℕ) (ws : List ℕ) (w word : ℕ) (a b : Choice) → choiceTold a ≡ choiceAsked P ws w word → choiceTold b ≡ choiceAsked P ws w word → a ≡ b
-choice-of-unique P ws w word a b e f = choiceTold-injective a b (e ∙ sym f)

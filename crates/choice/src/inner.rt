@@ -3,8 +3,8 @@ ghost use mathlib.Core.Option.{some};
 ghost use mathlib.Core.Path.{_≡_};
 ghost use Prim.Native.Nat.{_<_};
 ghost use Rattle.adjacency.specs.Weights.{Bounded, weightSum};
-ghost use Rattle.run.specs.Observer.{Lengths, notesIn, observe};
-ghost use Rattle.run.specs.Choice.{taken};
+ghost use Rattle.choice.specs.Observer.{Lengths, notesIn, observe};
+ghost use Rattle.choice.specs.Choice.{taken};
 use crate::observer;
 use crate::observer::Best;
 
