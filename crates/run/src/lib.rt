@@ -9,6 +9,7 @@ mod collapse;
 pub mod inner;
 mod laying;
 mod observer;
+mod stages;
 mod start;
 
 pub struct Forbid {
