@@ -11,7 +11,6 @@ ghost use Rattle.run.specs.Called.{memory, outcome, answerTold, End};
 ghost use Rattle.run.specs.Steps.{asking};
 ghost use Rattle.run.specs.Stages.{stateIn, stageOf, standing, Standing, beginning, layAt, concluding, Concluded};
 use crate::Answer;
-use crate::collapse::Stop;
 
 // Every refusal in order, of which `bad` is that of the forbids; or the run begins.
 pub(crate) fn begin(
@@ -173,16 +172,16 @@ pub(crate) fn conclude(
     Answer::Refused(refusals::inner::refusal(code))
 }
 
-// The answer of a run whose turns stop so.
-fn answer(stop: Stop) -> Answer
-    requires { ⌜ stop .end ≤ 3 ⌝ }
-    ensures { λ r. ⌜ answerTold r ≡ answer (record { end = stop .end; used = stop .used }) ⌝ }
+// The answer of a run that ends so.
+fn answer(end: u32, used: usize) -> Answer
+    requires { ⌜ end ≤ 3 ⌝ }
+    ensures { λ r. ⌜ answerTold r ≡ answer (record { end = end; used = used }) ⌝ }
 {
-    match stop.end {
-        0 => Answer::Decided(stop.used),
-        1 => Answer::Undecided(stop.used),
-        2 => Answer::Paused(stop.used),
-        _ => Answer::Contradiction(stop.used),
+    match end {
+        0 => Answer::Decided(used),
+        1 => Answer::Undecided(used),
+        2 => Answer::Paused(used),
+        _ => Answer::Contradiction(used),
     }
 }
 
@@ -227,5 +226,5 @@ fn turns(
         marks,
     );
     crate::start::finish(stop.end == 3, domains, counts, pending, floats, marks);
-    answer(stop)
+    answer(stop.end, stop.used)
 }
