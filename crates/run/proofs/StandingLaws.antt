@@ -19,9 +19,10 @@ use Rattle.propagation.specs.Lent.{pendingOf, stateOf, Lent, Roomy, Room, Groun
 use Rattle.run.specs.declared.Forbid.{Forbid}
 use Rattle.run.specs.declared.Answer.the-variants.{Contradiction, Refused}
 use Rattle.run.specs.declared.collapse.Stop.{Stop}
-use Rattle.run.specs.Run.{Given, begun, asked, laid, Ended, ended, collapse, runOf}
+use Rattle.run.specs.Run.{Given, begun, asked, laid, Ended, collapse, runOf}
 use Rattle.run.specs.Course.{fullLess, wanted}
-use Rattle.run.specs.Called.{Memory, memory, roomOf, Opened, baseTests, testsOf, forbidTests, End, answerTold, Outcome, outcome, cleared, finished}
+use Rattle.run.specs.Called as calls
+use Rattle.run.specs.Called.{Memory, roomOf, Opened, baseTests, testsOf, forbidTests, End, answerTold, Outcome, outcome, cleared, finished}
 use Rattle.run.specs.Steps.{idle, endedAs}
 use Rattle.run.specs.Stages.{contradicted, standing, stateIn, stageOf, Standing, beginAt, firstBad, beginning, layAt, concluding}
 use Rattle.consistency.proofs.Settled.{Settled}
@@ -31,7 +32,6 @@ use Rattle.run.proofs.TurnLaws.{Says, turn-over}
 use Rattle.run.proofs.CourseLaws.{run-final}
 use Rattle.run.proofs.TurnsLaws.{pile-idle, laid-run}
 use Rattle.run.proofs.CalledLaws.{Granted, called-granted}
-use Rattle.run.specs.Called as calls
 
 -- ---- refused, or begun
 
@@ -61,6 +61,7 @@ module _ (bad lent : ℕ) (i : Given) (m : Memory) {n : ℕ} (e : n ≡ firstOf 
       refused-at n z ∙ ap (λ (k : ℕ). beginAt k i m) (e ∙ sym (ap (λ (b : Bool). cond b bad (firstOf (baseTests i lent (roomOf m)))) (ne-eqb _ 0 (λ y. z (e ∙ y)))))
 
   module _ (z : n ≡ 0) where
+    -- nothing before the forbids is refused
     first-bad : firstBad bad lent i m ≡ bad
     unfolding firstBad
     first-bad = ap (λ (b : Bool). cond b bad (firstOf (baseTests i lent (roomOf m)))) (eq-eqb _ 0 (sym e ∙ z))
@@ -79,6 +80,7 @@ module _ (bad lent : ℕ) (i : Given) (m : Memory) {n : ℕ} (e : n ≡ firstOf 
 -- ---- while the run goes on
 
 module _ {i : Given} {m : Memory} (S : Standing i m) where
+  -- the state is what propagation leaves of full domains less all that the forbids ask to go
   standing-settled : Settled (i .table) (i .grid) (fullLess i (wanted (i .table .count) (S .laid .forbids))) (stateIn (i .table .count) m)
   standing-settled =
       subst (λ (s : State Beside). Settled (i .table) (i .grid) (fullLess i (wanted (i .table .count) (S .laid .forbids))) s) (sym (S .laid .is))
@@ -111,12 +113,14 @@ module _ {i : Given} {m : Memory} (S : Standing i m) where
 
   module _ (f : Forbid) (hc : f .cell < length (m .domains)) (hp : f .pattern < i .table .count) (m′ : Memory) (pile : Pile)
       (e : stateOf (i .table .count) (m′ .domains) (m′ .counts) (m′ .pending) pile (beside (m′ .floats) (m′ .marks)) ≡ laid i f (stateIn (i .table .count) m)) where
+    -- where the forbid leads, which the slices m′ and the pile stand for
     abbrev after : State Beside
     after = laid i f (stateIn (i .table .count) m)
 
     after-empty : {b : Bool} → pile .empty ≡ b → after .empty ≡ b
     after-empty h = sym (ap (λ (s : State Beside). s .empty) e) ∙ h
 
+    -- a cell was emptied
     pub lay-contradicted : pile .empty ≡ true → stageOf (i .table .count) 12 m′ ≡ layAt i f (stateIn (i .table .count) m)
     unfolding stageOf layAt
     lay-contradicted h = sym (ap (λ (b : Bool). cond b contradicted (standing after)) (after-empty h))
@@ -128,6 +132,7 @@ module _ {i : Given} {m : Memory} (S : Standing i m) where
         reducedBy-settled i (S .laid .lawful .accepted) (asked (i .table .count) f) (stateIn (i .table .count) m)
         (asked-inside (i .table .count) (cells (i .grid)) f (omega (arith, S .measured .domains)) hp) (standing-settled .ready refl) .ended (after-empty h)
 
+    -- so the slices stand for it alone
     pub lay-standing : pile .empty ≡ false → stageOf (i .table .count) 0 m′ ≡ layAt i f (stateIn (i .table .count) m)
     unfolding stageOf layAt
     lay-standing h =
@@ -172,11 +177,13 @@ pub room-same : {R : Type 0} (m : Memory) {domains counts pending floats marks :
 room-same m (a, (b, (c, (d, (e, _))))) = λ j. calls.room (a j) (b j) (c j) (d j) (e j)
 
 module _ (i : Given) (words : List ℕ) (m : Memory) {code : ℕ} where
+  -- the run goes on: its turns
   pub conclude-standing : code ≡ 0 → {o : Outcome} → o ≡ concluding i words (standing (stateIn (i .table .count) m)) m
       → o ≡ concluding i words (stageOf (i .table .count) code m) m
   unfolding stageOf
   conclude-standing z e = e ∙ ap (λ (n : ℕ). concluding i words (stageOf (i .table .count) n m) m) (sym z)
 
+  -- a forbid emptied a cell: all is zero
   pub conclude-contradicted : code ≡ 12 → {m′ : Memory} → m′ ≡ cleared (replicate (length (m .domains)) 0) (roomOf m)
       → outcome (answerTold (Contradiction 0)) m′ ≡ concluding i words (stageOf (i .table .count) code m) m
   unfolding stageOf concluding finished answerTold
