@@ -3,3 +3,4 @@ pub mod Run
 pub mod Course
 pub mod Called
 pub mod Steps
+pub mod Stages

@@ -7,6 +7,7 @@ use refusals::Verdict;
 mod check;
 mod collapse;
 mod laying;
+mod stages;
 mod start;
 
 pub struct Forbid {
