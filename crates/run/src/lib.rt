@@ -6,8 +6,8 @@ use refusals::Verdict;
 
 mod check;
 mod collapse;
+pub mod inner;
 mod laying;
-mod stages;
 mod start;
 
 pub struct Forbid {

@@ -1,4 +1,4 @@
--- `run::stages::begin` meets its contract: the first refusal in order, with all as it was, or the start.
+-- `run::inner::begin` meets its contract: the first refusal in order, with all as it was, or the start.
 -- Assumes nothing.
 use mathlib.Core.List.{[]}
 use mathlib.Core.Path.{_≡_, refl, sym, _∙_}
@@ -11,8 +11,8 @@ use Rattle.run.specs.Run.{Given, given}
 use Rattle.run.specs.Called.{Memory, memory, roomOf, baseTests}
 use Rattle.run.proofs.CalledLaws.{Granted}
 use Rattle.run.proofs.StandingLaws.{base-granted, granted-opened, begin-refused, begin-bad, begin-standing}
-use Rattle.run.proofs.stages.begin.Statement.{statement}
-use Rattle.run.proofs.stages.begin.Tie as tie
+use Rattle.run.proofs.inner.begin.Statement.{statement}
+use Rattle.run.proofs.inner.begin.Tie as tie
 
 -- what the call is given, and the lent slices at entry
 abbrev input : tie.Start → Given

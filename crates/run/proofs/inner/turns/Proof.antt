@@ -1,10 +1,10 @@
--- `run::stages::turns` meets its contract: the answer tells the end of the turns, and the domains are zero where that is a contradiction.
+-- `run::inner::turns` meets its contract: the answer tells the end of the turns, and the domains are zero where that is a contradiction.
 -- Assumes nothing.
 use borrow.Author.Needs.{needs}
 use Rattle.run.specs.Called.{Memory, memory}
 use Rattle.run.proofs.StandingLaws.{standing-lent, standing-ground, standing-roomy, stop-most, room-same, turns-concluded}
-use Rattle.run.proofs.stages.turns.Statement.{statement}
-use Rattle.run.proofs.stages.turns.Tie as tie
+use Rattle.run.proofs.inner.turns.Statement.{statement}
+use Rattle.run.proofs.inner.turns.Tie as tie
 
 -- the lent slices at entry
 abbrev entry : tie.Start → Memory

@@ -1,10 +1,10 @@
--- `run::stages::lay_one` meets its contract: a pile that emptied no cell has nothing pending.
+-- `run::inner::lay_one` meets its contract: a pile that emptied no cell has nothing pending.
 -- Assumes nothing.
 use borrow.Author.Needs.{needs}
 use Rattle.run.specs.Steps.{asking}
 use Rattle.run.proofs.StandingLaws.{standing-lent, standing-ground, standing-room, lay-contradicted, lay-standing}
-use Rattle.run.proofs.stages.lay_one.Statement.{statement}
-use Rattle.run.proofs.stages.lay_one.Tie as tie
+use Rattle.run.proofs.inner.lay_one.Statement.{statement}
+use Rattle.run.proofs.inner.lay_one.Tie as tie
 
 weighted-mask-requires : tie.Need-weighted-mask-requires
 weighted-mask-requires c κs = search needs

@@ -14,7 +14,7 @@ ghost use Rattle.run.specs.Stages.{stateIn, stageOf, standing, Standing,
 use crate::Answer;
 
 // Every refusal in order, of which `bad` is that of the forbids; or the run begins.
-pub(crate) fn begin(
+pub fn begin(
     bad: u32,
     lent: usize,
     count: usize,
@@ -74,7 +74,7 @@ pub(crate) fn begin(
 }
 
 // A forbid is laid: 0 to go on, 12 for a contradiction.
-pub(crate) fn lay_one(
+pub fn lay_one(
     cell: u32,
     pattern: u32,
     keep: u32,

@@ -1,4 +1,4 @@
--- `run::stages::conclude` meets its contract: the turns, a contradiction, or a refusal that changes nothing.
+-- `run::inner::conclude` meets its contract: the turns, a contradiction, or a refusal that changes nothing.
 -- Assumes nothing.
 use borrow.Author.Needs.{needs}
 use Rattle.adjacency.specs.Tables.{table}
@@ -6,8 +6,8 @@ use Rattle.grid.specs.Grid.{grid}
 use Rattle.run.specs.Run.{Given, given}
 use Rattle.run.specs.Called.{Memory, memory}
 use Rattle.run.proofs.StandingLaws.{conclude-standing, conclude-contradicted, conclude-refused}
-use Rattle.run.proofs.stages.conclude.Statement.{statement}
-use Rattle.run.proofs.stages.conclude.Tie as tie
+use Rattle.run.proofs.inner.conclude.Statement.{statement}
+use Rattle.run.proofs.inner.conclude.Tie as tie
 
 -- what the call is given, and the lent slices at entry
 abbrev input : tie.Start → Given

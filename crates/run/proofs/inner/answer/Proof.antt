@@ -1,12 +1,12 @@
--- `run::stages::answer` meets its contract: each end below 3 is a case of its own, and what is left is a contradiction.
+-- `run::inner::answer` meets its contract: each end below 3 is a case of its own, and what is left is a contradiction.
 -- Assumes nothing.
 use mathlib.Core.Path.{_≡_, sym, ap}
 use Prim.Native.Nat.{ℕ, _≤_}
 use native.Mathlib.Omega.{arith}
 use Rattle.refusals.specs.Refusals.{Asked, answer}
 use Rattle.run.specs.Called.{End, answerTold}
-use Rattle.run.proofs.stages.answer.Statement.{statement}
-use Rattle.run.proofs.stages.answer.Tie as tie
+use Rattle.run.proofs.inner.answer.Statement.{statement}
+use Rattle.run.proofs.inner.answer.Tie as tie
 
 abbrev ends : ℕ → ℕ → Asked End
 ends used end = answer (record { end = end; used = used })
