@@ -15,9 +15,11 @@ use Rattle.adjacency.specs.Tables.{Table, table}
 use Rattle.grid.specs.Grid.{Grid, grid, cells}
 use Rattle.run.specs.declared.Forbid.{Forbid}
 use Rattle.run.specs.Run.{Given, collapse}
+use Rattle.run.specs.Course.{Placed}
 use Rattle.run.specs.Called.{Memory, Room, roomOf, placeTests, forbidTests, Outcome, outcome, cleared, called}
 use Rattle.run.specs.Stages.{Stage, refusedAt, contradicted, standing, stateIn, stageOf, Standing, beginning, layAt, lay, layAll, concluding, Concluded}
-use Rattle.refusals.proofs.RefusalLaws.{first-append, first-empty}
+use Rattle.refusals.proofs.RefusalLaws.{first-append, first-empty, first-passed}
+use Rattle.run.proofs.CalledLaws.{passed-placed}
 
 -- ---- a number that is tested
 
@@ -39,6 +41,12 @@ noForbid = record { cell = 0; pattern = 0; keep = 0 }
 
 abbrev pub lentAt : List Forbid → ℕ → Forbid
 lentAt fs k = getD fs k noForbid
+
+-- it is placed where all are
+placed-at : (P n : ℕ) (fs : List Forbid) (k : ℕ) → Placed P n fs → k < length fs → (lentAt fs k .cell < n) × (lentAt fs k .pattern < P)
+placed-at P n [] k h l = absurd (omega arith)
+placed-at P n (f ∷ fs) zero h l = (h .0, h .1)
+placed-at P n (f ∷ fs) (suc k) h l = placed-at P n fs k (h .2) (omega arith)
 
 -- ---- the first refusal
 
@@ -158,7 +166,9 @@ module _ (i : Given) (fs : List Forbid) (m₀ : Memory) where
 
   -- the forbid at place k is inside
   pub at-record : (k code : ℕ) (m : Memory) → Going k code m → k < length fs → code ≡ 0 → (lentAt fs k .cell < length (m .domains)) × (lentAt fs k .pattern < i .table .count)
-  at-record k code m g l z = ?
+  at-record k code m g l z =
+      let (inside, known) = placed-at (i .table .count) (cells (i .grid)) fs k (passed-placed (i .table) (i .grid) fs (first-passed (forbidTests (i .table) (i .grid) fs) (g .fine z))) l in
+      (subst (λ (n : ℕ). lentAt fs k .cell < n) (sym (g .concluded .standing z .measured .domains)) inside, known)
 
   pub at-last : (k code : ℕ) (m : Memory) → Going k code m → length fs ≤ k → stageOf (i .table .count) code m ≡ layAll i fs begun
   at-last k code m g l = sym (lay-end i (stageOf (i .table .count) code m) fs k l) ∙ g .rest
