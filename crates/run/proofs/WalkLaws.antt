@@ -2,24 +2,24 @@
 -- Follows docs/RULES.md, "Run" and "Refusals". Assumes nothing.
 use mathlib.Core.Bool.{Bool, true, false, not, cond}
 use mathlib.Core.List.{List, [], _∷_}
-use mathlib.Core.Path.{_≡_, refl, sym, ap, _∙_, subst}
-use Prim.Native.Nat.{ℕ, zero, suc, _+_, _≤_, _<_, zero-le}
-use native.Mathlib.Numerals.{add-one, add-one-le}
+use mathlib.Core.Path.{_≡_, sym, ap, _∙_, subst}
+use Prim.Native.Nat.{ℕ, zero, suc, _+_, _≤_, _<_}
+use native.Mathlib.Numerals.{add-one}
 use native.Mathlib.Omega.{arith}
 use lib.Dec.{eqb, T, T-not, eqb→eq}
-use lib.ListN.{length, getD, replicate, drop, drop-of-length-le}
+use lib.ListN.{length, getD, drop, drop-of-length-le}
 use lib.Seq.{drop-cons}
 use borrow.Author.Tests.{eq-eqb, ne-eqb}
-use Rattle.refusals.specs.Refusals.{firstOf, answer}
-use Rattle.adjacency.specs.Tables.{Table, table}
-use Rattle.grid.specs.Grid.{Grid, grid, cells}
+use Rattle.refusals.specs.Refusals.{firstOf}
+use Rattle.adjacency.specs.Tables.{table}
+use Rattle.grid.specs.Grid.{grid, cells}
 use Rattle.run.specs.declared.Forbid.{Forbid}
-use Rattle.run.specs.Run.{Given, collapse}
+use Rattle.run.specs.Run.{Given}
 use Rattle.run.specs.Course.{Placed}
-use Rattle.run.specs.Called.{Memory, Room, roomOf, placeTests, forbidTests, Outcome, outcome, cleared, called}
-use Rattle.run.specs.Stages.{Stage, refusedAt, contradicted, standing, stateIn, stageOf, Standing, beginning, layAt, lay, layAll, concluding, Concluded}
-use Rattle.refusals.proofs.RefusalLaws.{first-append, first-empty, first-passed}
-use Rattle.run.proofs.CalledLaws.{passed-placed}
+use Rattle.run.specs.Called.{Memory, roomOf, placeTests, forbidTests, Outcome, called}
+use Rattle.run.specs.Stages.{Stage, stateIn, stageOf, Standing, beginning, layAt, layAll, concluding, Concluded}
+use Rattle.refusals.proofs.RefusalLaws.{first-append, first-empty}
+use Rattle.run.proofs.StageLaws.{laying-stops, laying-next, laying-done, concluding-room, called-stages, begun-placed, begun-concluded, lay-concluded}
 
 -- ---- a number that is tested
 
@@ -83,48 +83,6 @@ module _ (count width height : ℕ) (fs : List Forbid) where
   unfolding forbidTests
   first-end k l offsets ids mode = sym (ap (λ (gs : List Forbid). firstOf (forbidTests (table count offsets ids) (grid width height mode) gs)) (drop-of-length-le fs l) ∙ first-empty)
 
--- ---- the stages
-
-module _ (i : Given) where
-  stays-contradicted : (fs : List Forbid) → layAll i fs contradicted ≡ contradicted
-  unfolding layAll lay
-  stays-contradicted [] = refl
-  stays-contradicted (f ∷ fs) = stays-contradicted fs
-
-  stays-refused : (n : ℕ) (m : Memory) (fs : List Forbid) → layAll i fs (refusedAt n m) ≡ refusedAt n m
-  unfolding layAll lay
-  stays-refused n m [] = refl
-  stays-refused n m (f ∷ fs) = stays-refused n m fs
-
-  -- with a code that is not 0, the forbids change nothing
-  lay-stop : (code : ℕ) (m : Memory) (fs : List Forbid) → (code ≡ 0 → ⊥) → layAll i fs (stageOf (i .table .count) code m) ≡ stageOf (i .table .count) code m
-  unfolding stageOf
-  lay-stop zero m fs h = absurd (h refl)
-  lay-stop (suc n) m fs h = go (eqb (suc n) 12)
-    where
-      go : (b : Bool) → layAll i fs (cond b contradicted (refusedAt (suc n) m)) ≡ cond b contradicted (refusedAt (suc n) m)
-      go true = stays-contradicted fs
-      go false = stays-refused (suc n) m fs
-
-  -- the forbid at place k is laid, and those after it
-  lay-turn : (m : Memory) (fs : List Forbid) (k : ℕ) → k < length fs
-      → layAll i (drop k fs) (stageOf (i .table .count) 0 m) ≡ layAll i (drop (k + 1) fs) (layAt i (lentAt fs k) (stateIn (i .table .count) m))
-  unfolding layAll lay stageOf
-  lay-turn m fs k l = rw (drop-cons fs k noForbid l, add-one k)
-
-  lay-end : (x : Stage) (fs : List Forbid) (k : ℕ) → length fs ≤ k → layAll i (drop k fs) x ≡ x
-  unfolding layAll
-  lay-end x fs k l = rw (drop-of-length-le fs l)
-
-  -- of the memory, a conclusion looks at the lengths alone
-  conclude-room : (words : List ℕ) (x : Stage) (m m′ : Memory) → roomOf m ≡ roomOf m′ → concluding i words x m ≡ concluding i words x m′
-  unfolding concluding
-  conclude-room words (refusedAt n m₁) m m′ e = refl
-  conclude-room words contradicted m m′ e = ap (λ (r : Room). outcome (answer (record { end = 3; used = 0 })) (cleared (replicate (r .domains) 0) r)) e
-  conclude-room words (standing s) m m′ e =
-      let d = collapse i words (cells (i .grid) + 1) 0 s in
-      ap (λ (r : Room). outcome (answer (record { end = d .end; used = d .used })) (cleared (d .domains) r)) e
-
 -- ---- what holds at the head of the loop, of a call with the memory m₀
 
 -- the number of the forbids' first refusal
@@ -132,51 +90,60 @@ abbrev pub refusal : Given → List Forbid → ℕ
 refusal i fs = firstOf (forbidTests (i .table) (i .grid) fs)
 
 module _ (i : Given) (fs : List Forbid) (m₀ : Memory) where
+  abbrev P : ℕ
+  P = i .table .count
+
   abbrev pub begun : Stage
   begun = beginning (refusal i fs) (length fs) i m₀
 
   -- k forbids are laid, and the call stands at the code and the memory m
   pub record Going (k code : ℕ) (m : Memory) : Type 0 where
-    pub within : k ≤ length fs
-    pub rest : layAll i (drop k fs) (stageOf (i .table .count) code m) ≡ layAll i fs begun
+    pub rest : layAll i (drop k fs) (stageOf P code m) ≡ layAll i fs begun
     pub room : roomOf m ≡ roomOf m₀
-    pub fine : code ≡ 0 → refusal i fs ≡ 0
+    pub placed : code ≡ 0 → Placed P (cells (i .grid)) fs
     pub concluded : Concluded i code m
 
-  pub at-first : (code : ℕ) (m : Memory) → roomOf m ≡ roomOf m₀ → stageOf (i .table .count) code m ≡ begun → Going 0 code m
+  pub at-first : (code : ℕ) (m : Memory) → roomOf m ≡ roomOf m₀ → stageOf P code m ≡ begun → Going 0 code m
   at-first code m e h = record {
-    within = zero-le;
     rest = ap (layAll i fs) h;
     room = e;
-    fine = ?;
-    concluded = ?;
-  }
-
-  pub at-next : (k code code′ : ℕ) (m m′ : Memory) → Going k code m → k < length fs → code ≡ 0 → roomOf m′ ≡ roomOf m₀
-      → stageOf (i .table .count) code′ m′ ≡ layAt i (lentAt fs k) (stateIn (i .table .count) m) → Going (k + 1) code′ m′
-  at-next k code code′ m m′ g l z e h = record {
-    within = add-one-le l;
-    rest =
-        ap (layAll i (drop (k + 1) fs)) h ∙ sym (lay-turn i m fs k l)
-        ∙ ap (λ (c : ℕ). layAll i (drop k fs) (stageOf (i .table .count) c m)) (sym z) ∙ g .rest;
-    room = e;
-    fine = λ w. g .fine z;
-    concluded = ?;
+    placed = begun-placed i (length fs) fs m₀ code m h;
+    concluded = begun-concluded i (length fs) fs m₀ code m h e;
   }
 
   -- the forbid at place k is inside
-  pub at-record : (k code : ℕ) (m : Memory) → Going k code m → k < length fs → code ≡ 0 → (lentAt fs k .cell < length (m .domains)) × (lentAt fs k .pattern < i .table .count)
+  inside : (k code : ℕ) (m : Memory) → Going k code m → k < length fs → code ≡ 0 → (lentAt fs k .cell < cells (i .grid)) × (lentAt fs k .pattern < P)
+  inside k code m g l z = placed-at P (cells (i .grid)) fs k (g .placed z) l
+
+  pub at-record : (k code : ℕ) (m : Memory) → Going k code m → k < length fs → code ≡ 0 → (lentAt fs k .cell < length (m .domains)) × (lentAt fs k .pattern < P)
   at-record k code m g l z =
-      let (inside, known) = placed-at (i .table .count) (cells (i .grid)) fs k (passed-placed (i .table) (i .grid) fs (first-passed (forbidTests (i .table) (i .grid) fs) (g .fine z))) l in
-      (subst (λ (n : ℕ). lentAt fs k .cell < n) (sym (g .concluded .standing z .measured .domains)) inside, known)
+      let (cell, pattern) = inside k code m g l z in
+      (subst (λ (n : ℕ). lentAt fs k .cell < n) (sym (g .concluded .standing z .measured .domains)) cell, pattern)
 
-  pub at-last : (k code : ℕ) (m : Memory) → Going k code m → length fs ≤ k → stageOf (i .table .count) code m ≡ layAll i fs begun
-  at-last k code m g l = sym (lay-end i (stageOf (i .table .count) code m) fs k l) ∙ g .rest
+  -- it is laid
+  pub at-next : (k code code′ : ℕ) (m m′ : Memory) → Going k code m → k < length fs → code ≡ 0 → roomOf m′ ≡ roomOf m₀ → stageOf P code′ m′ ≡ layAt i (lentAt fs k) (stateIn P m) → Going (k + 1) code′ m′
+  at-next k code code′ m m′ g l z e h =
+      let (cell, pattern) = inside k code m g l z in
+      record {
+        rest =
+            ap (λ (j : ℕ). layAll i (drop j fs) (stageOf P code′ m′)) (add-one k)
+            ∙ sym (laying-next i (lentAt fs k) (drop (suc k) fs) code m code′ m′ z h)
+            ∙ ap (λ (gs : List Forbid). layAll i gs (stageOf P code m)) (sym (drop-cons fs k noForbid l))
+            ∙ g .rest;
+        room = e;
+        placed = λ w. g .placed z;
+        concluded = lay-concluded i (lentAt fs k) m (g .concluded .standing z) code′ m′ h cell pattern (e ∙ sym (g .room));
+      }
 
-  pub at-stop : (k code : ℕ) (m : Memory) → Going k code m → (code ≡ 0 → ⊥) → stageOf (i .table .count) code m ≡ layAll i fs begun
-  at-stop k code m g h = sym (lay-stop i code m (drop k fs) h) ∙ g .rest
+  -- none is left, or a code that is not 0 ends it: the call stands where all forbids lead
+  pub at-last : (k code : ℕ) (m : Memory) → Going k code m → length fs ≤ k → stageOf P code m ≡ layAll i fs begun
+  at-last k code m g l = sym (ap (λ (gs : List Forbid). layAll i gs (stageOf P code m)) (drop-of-length-le fs l) ∙ laying-done i (stageOf P code m)) ∙ g .rest
 
-  pub run-is : (words : List ℕ) (k code : ℕ) (m : Memory) (o : Outcome) → Going k code m → stageOf (i .table .count) code m ≡ layAll i fs begun
-      → o ≡ concluding i words (stageOf (i .table .count) code m) m → o ≡ called i fs words m₀
+  pub at-stop : (k code : ℕ) (m : Memory) → Going k code m → (code ≡ 0 → ⊥) → stageOf P code m ≡ layAll i fs begun
+  at-stop k code m g h = sym (laying-stops i (drop k fs) code m h) ∙ g .rest
+
+  -- what is concluded from there is what the call comes to
+  pub run-is : (words : List ℕ) (k code : ℕ) (m : Memory) (o : Outcome) → Going k code m → stageOf P code m ≡ layAll i fs begun
+      → o ≡ concluding i words (stageOf P code m) m → o ≡ called i fs words m₀
   run-is words k code m o g h c =
-      c ∙ ap (λ (x : Stage). concluding i words x m) h ∙ conclude-room i words (layAll i fs begun) m m₀ (g .room) ∙ ?
+      c ∙ ap (λ (x : Stage). concluding i words x m) h ∙ concluding-room i words (layAll i fs begun) m₀ m (g .room) ∙ sym (called-stages (length fs) i fs words m₀)
