@@ -17,7 +17,7 @@ use Rattle.run.specs.declared.Forbid.{Forbid}
 use Rattle.run.specs.Run.{Given}
 use Rattle.run.specs.Course.{Placed}
 use Rattle.run.specs.Called.{Memory, roomOf, placeTests, forbidTests, Outcome, called}
-use Rattle.run.specs.Stages.{Stage, stateIn, stageOf, Standing, beginning, layAt, layAll, concluding, Concluded}
+use Rattle.run.specs.Stages.{Stage, stateIn, stageOf, beginning, layAt, layAll, concluding, Concluded}
 use Rattle.refusals.proofs.RefusalLaws.{first-append, first-empty}
 use Rattle.run.proofs.StageLaws.{laying-stops, laying-next, laying-done, concluding-room, called-stages, begun-placed, begun-concluded, lay-concluded}
 

@@ -1,13 +1,13 @@
 -- `run::check::check_all` meets its contract: a walk of its MIR, by hand. Each turn copies record i and passes its numbers to `judge`; a number that is not 0 is returned from within the loop.
 -- The invariant, which stands in the variant beside i: the first refusal from record i on is that of all. With [what forbids owns; its token] in front, local i stands at 2 + 2 i. `tools/walk.py` counts the positions.
 -- Assumes nothing.
-use mathlib.Core.Path.{_≡_, refl, sym, ap, _∙_}
+use mathlib.Core.Path.{_≡_, refl, sym, ap}
 use mathlib.Core.Bool.{Bool, true, false, not}
 use Prim.Native.Nat.{ℕ, _+_, _-_, _*_, _≤_, _<_, _^_}
 use native.Mathlib.Nat.{lt-of-le-of-lt}
 use native.Mathlib.Numerals.{add-one-le, add-one-dec}
 use mathlib.Core.WellFounded.{WellFounded, InvImage·wf}
-use mathlib.Core.Option.{Option, none, some as holds}
+use mathlib.Core.Option.{none, some as holds}
 use mathlib.Core.List.{List, [], _∷_}
 use lib.WfN.{Nat·lt-wfRel}
 use lib.ListN.{length}
