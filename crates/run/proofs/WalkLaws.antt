@@ -51,34 +51,36 @@ placed-at P n (f ∷ fs) (suc k) h l = placed-at P n fs k (h .2) (omega arith)
 -- ---- the first refusal
 
 module _ (count width height : ℕ) (fs : List Forbid) where
-  -- r is the number of the first refusal of the forbids from place k on, whatever the table and the mode
-  abbrev pub First : ℕ → ℕ → Type 0
-  First k r = (offsets ids : List ℕ) (mode : ℕ) → r ≡ firstOf (forbidTests (table count offsets ids) (grid width height mode) (drop k fs))
+  -- the number of the first refusal of the forbids from place k on
+  abbrev from : List ℕ → List ℕ → ℕ → ℕ → ℕ
+  from offsets ids mode k = firstOf (forbidTests (table count offsets ids) (grid width height mode) (drop k fs))
 
-  -- r is the number of the refusal of the forbid at place k
+  -- r is that, whatever the rest of the table and the mode
+  abbrev pub First : ℕ → ℕ → Type 0
+  First k r = (offsets ids : List ℕ) (mode : ℕ) → r ≡ from offsets ids mode k
+
+  -- r is the number of the refusal of the forbid at place k, whatever the mode
   abbrev pub Judged : ℕ → ℕ → Type 0
   Judged k r = (mode : ℕ) → r ≡ firstOf (placeTests count (grid width height mode) (lentAt fs k .cell) (lentAt fs k .pattern))
 
-  split : (k : ℕ) → k < length fs → (r : ℕ) → Judged k r → (offsets ids : List ℕ) (mode : ℕ)
-      → firstOf (forbidTests (table count offsets ids) (grid width height mode) (drop k fs))
-      ≡ cond (eqb r 0) (firstOf (forbidTests (table count offsets ids) (grid width height mode) (drop (suc k) fs))) r
+  -- that of the forbid at place k, or of those after it
+  from-split : (k : ℕ) → k < length fs → (r : ℕ) → Judged k r → (offsets ids : List ℕ) (mode : ℕ) → from offsets ids mode k ≡ cond (eqb r 0) (from offsets ids mode (suc k)) r
   unfolding forbidTests
-  split k l r h offsets ids mode =
+  from-split k l r h offsets ids mode =
       ap (λ (gs : List Forbid). firstOf (forbidTests (table count offsets ids) (grid width height mode) gs)) (drop-cons fs k noForbid l)
       ∙ first-append (placeTests count (grid width height mode) (lentAt fs k .cell) (lentAt fs k .pattern)) (forbidTests (table count offsets ids) (grid width height mode) (drop (suc k) fs))
-      ∙ sym (ap (λ (n : ℕ). cond (eqb n 0) (firstOf (forbidTests (table count offsets ids) (grid width height mode) (drop (suc k) fs))) n) (h mode))
+      ∙ sym (ap (λ (n : ℕ). cond (eqb n 0) (from offsets ids mode (suc k)) n) (h mode))
 
   -- a forbid that is refused decides
   pub first-here : (k : ℕ) → k < length fs → (r : ℕ) → Judged k r → (r ≡ 0 → ⊥) → First k r
-  first-here k l r h z offsets ids mode =
-      sym (split k l r h offsets ids mode ∙ ap (λ (b : Bool). cond b (firstOf (forbidTests (table count offsets ids) (grid width height mode) (drop (suc k) fs))) r) (ne-eqb r 0 z))
+  first-here k l r h z offsets ids mode = sym (from-split k l r h offsets ids mode ∙ ap (λ (b : Bool). cond b (from offsets ids mode (suc k)) r) (ne-eqb r 0 z))
 
   -- one that is not is passed
   pub first-next : (k : ℕ) → k < length fs → (r : ℕ) → Judged k r → r ≡ 0 → (s : ℕ) → First (k + 1) s → First k s
   first-next k l r h z s g offsets ids mode =
-      subst (λ (j : ℕ). First j s) (add-one k) g offsets ids mode
-      ∙ sym (split k l r h offsets ids mode ∙ ap (λ (b : Bool). cond b (firstOf (forbidTests (table count offsets ids) (grid width height mode) (drop (suc k) fs))) r) (eq-eqb r 0 z))
+      subst (λ (j : ℕ). First j s) (add-one k) g offsets ids mode ∙ sym (from-split k l r h offsets ids mode ∙ ap (λ (b : Bool). cond b (from offsets ids mode (suc k)) r) (eq-eqb r 0 z))
 
+  -- past the end none is refused
   pub first-end : (k : ℕ) → length fs ≤ k → First k 0
   unfolding forbidTests
   first-end k l offsets ids mode = sym (ap (λ (gs : List Forbid). firstOf (forbidTests (table count offsets ids) (grid width height mode) gs)) (drop-of-length-le fs l) ∙ first-empty)
@@ -93,16 +95,18 @@ module _ (i : Given) (fs : List Forbid) (m₀ : Memory) where
   abbrev P : ℕ
   P = i .table .count
 
+  -- the stage after the beginning
   abbrev pub begun : Stage
   begun = beginning (refusal i fs) (length fs) i m₀
 
-  -- k forbids are laid, and the call stands at the code and the memory m
+  -- k forbids are laid, and the call stands at the code and the memory m: the others lead from there where all lead, and the memory is as the next call asks
   pub record Going (k code : ℕ) (m : Memory) : Type 0 where
     pub rest : layAll i (drop k fs) (stageOf P code m) ≡ layAll i fs begun
     pub room : roomOf m ≡ roomOf m₀
     pub placed : code ≡ 0 → Placed P (cells (i .grid)) fs
     pub concluded : Concluded i code m
 
+  -- it begins
   pub at-first : (code : ℕ) (m : Memory) → roomOf m ≡ roomOf m₀ → stageOf P code m ≡ begun → Going 0 code m
   at-first code m e h = record {
     rest = ap (layAll i fs) h;
