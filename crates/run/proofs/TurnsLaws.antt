@@ -49,7 +49,7 @@ turn-empty i words used s e = rw e
 -- ---- between two turns
 
 -- a pile with nothing pending, where no cell was emptied
-pile-idle : (P : ℕ) (Q : List ℕ) (pile : Pile) → pile .empty ≡ false → pendingOf P Q (pile .top) ≡ [] → pile ≡ idle
+pub pile-idle : (P : ℕ) (Q : List ℕ) (pile : Pile) → pile .empty ≡ false → pendingOf P Q (pile .top) ≡ [] → pile ≡ idle
 pile-idle P Q pile e k = λ j. record { top = low j; empty = e j }
   where
     low : pile .top ≡ 0

@@ -1,5 +1,6 @@
 // The stages of a call, over plain numbers: refused or begun, a forbid laid, concluded. Whoever holds the forbids goes through them in order.
 // Follows docs/RULES.md, "Run" and "Refusals". A code tells where the call stands: 0 while the run goes on, 12 after a contradiction, otherwise a refusal's number.
+// Each is lent every slice of the run, read or not, so that whoever holds the forbids lends the same ones each time.
 ghost use mathlib.Core.Path.{_≡_};
 ghost use Prim.Native.Nat.{_≤_, _<_};
 ghost use lib.ListN.{length};
@@ -7,7 +8,7 @@ ghost use Rattle.refusals.specs.Refusals.{answer};
 ghost use Rattle.adjacency.specs.Tables.{table};
 ghost use Rattle.grid.specs.Grid.{grid};
 ghost use Rattle.run.specs.Run.{given};
-ghost use Rattle.run.specs.Called.{memory, outcome, answerTold, End};
+ghost use Rattle.run.specs.Called.{memory, outcome, answerTold};
 ghost use Rattle.run.specs.Steps.{asking};
 ghost use Rattle.run.specs.Stages.{stateIn, stageOf, standing, Standing, beginning, layAt, concluding, Concluded};
 use crate::Answer;
