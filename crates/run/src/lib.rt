@@ -8,9 +8,12 @@ mod check;
 mod collapse;
 pub mod inner;
 mod laying;
+mod numbers;
 mod observer;
 mod stages;
 mod start;
+
+pub use numbers::run_numbers;
 
 pub struct Forbid {
     pub cell: u32,
