@@ -17,7 +17,7 @@ use Rattle.propagation.specs.Beside.{Beside}
 use Rattle.run.specs.declared.Forbid.{Forbid}
 use Rattle.run.specs.Run.{Given, begun, laid, laidAll, Ended, ended, collapse, runOf}
 use Rattle.run.specs.Course.{Placed}
-use Rattle.run.specs.Called.{Memory, Room, room, roomOf, Measured, baseTests, forbidTests, testsOf, outcome, cleared, finished, calledOf}
+use Rattle.run.specs.Called.{Memory, Room, roomOf, Measured, baseTests, forbidTests, testsOf, outcome, cleared, finished, calledOf}
 use Rattle.run.specs.Stages.{Stage, refusedAt, contradicted, standing, stateIn, stageOf, Standing, beginAt, firstBad, beginning, layAt, lay, layAll, concluding, Concluded}
 use Rattle.refusals.proofs.RefusalLaws.{first-append, first-most}
 use Rattle.run.proofs.StateLaws.{forbade-settled}
@@ -232,13 +232,6 @@ module _ (lent : ℕ) (i : Given) (fs : List Forbid) (words : List ℕ) (m : Mem
           )
 
 -- ---- what each stage leaves
-
--- each slice is as long as before, as a call says of the five that it was lent, with what it says of the rest
-pub room-kept : (m m′ : Memory) {R : Type 0}
-    → (length (m′ .domains) ≡ length (m .domains)) × ((length (m′ .counts) ≡ length (m .counts)) × ((length (m′ .pending) ≡ length (m .pending))
-    × ((length (m′ .floats) ≡ length (m .floats)) × ((length (m′ .marks) ≡ length (m .marks)) × R))))
-    → roomOf m′ ≡ roomOf m
-room-kept m m′ (domains, (counts, (pending, (floats, (marks, _))))) = λ j. room (domains j) (counts j) (pending j) (floats j) (marks j)
 
 module _ (i : Given) where
   -- the lengths as they were

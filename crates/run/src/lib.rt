@@ -12,7 +12,10 @@ mod check;
 mod collapse;
 pub mod inner;
 mod laying;
+mod numbers;
 mod start;
+
+pub use numbers::run_numbers;
 
 pub struct Forbid {
     pub cell: u32,
