@@ -282,6 +282,7 @@ module _ (i : Given) where
             };
       }
 
+  -- so it leaves what the forbids and the conclusion take
   pub begun-concluded : (lent : ℕ) (fs : List Forbid) (m : Memory) (code : ℕ) (m′ : Memory)
       → stageOf (i .table .count) code m′ ≡ beginning (firstOf (forbidTests (i .table) (i .grid) fs)) lent i m → roomOf m′ ≡ roomOf m → Concluded i code m′
   begun-concluded lent fs m code m′ e same =
@@ -336,6 +337,7 @@ module _ (i : Given) where
               };
         }
 
+    -- so they leave what the conclusion takes
     laid-concluded : Placed (i .table .count) (cells (i .grid)) fs → roomOf m′ ≡ roomOf m → Concluded i r m′
     laid-concluded placed same = record { few = laid-few; standing = laid-standing placed same }
 
