@@ -10,7 +10,7 @@ use Rattle.adjacency.specs.Tables.{Table, table}
 use Rattle.grid.specs.Grid.{Grid, grid, cells}
 use Rattle.refusals.specs.Refusals.{answer}
 use Rattle.run.specs.declared.Forbid.{Forbid}
-use Rattle.run.specs.Choice.{choiceOf}
+use Rattle.run.specs.Asked.{choiceOf}
 use Rattle.run.specs.Called.{Memory, memory, Outcome, calledOf, called}
 use Rattle.consistency.proofs.Cases.{checker}
 

@@ -18,7 +18,7 @@ use Rattle.grid.specs.Grid.{cells, neighbour}
 use Rattle.consistency.specs.Domains.{possible, Fit, emptied, settledAs}
 use Rattle.consistency.specs.Consistent.{Greatest}
 use Rattle.run.specs.declared.Forbid.{Forbid}
-use Rattle.run.specs.Observer.{countsAt}
+use Rattle.choice.specs.Observer.{countsAt}
 use Rattle.run.specs.Run.{Given, notesOf, sighted, Ended, decided}
 use Rattle.run.specs.Course.{Lawful, fullLess, Final}
 use Rattle.loops.proofs.TestLaws.{T-true, true-T, every-at, every-fails}

@@ -27,10 +27,10 @@ use Rattle.propagation.specs.Beside.{Beside, lessened, kept, unmarked}
 use Rattle.propagation.specs.Lent.{stateOf, Lent, Room, Ground}
 use Rattle.run.specs.declared.Forbid.{Forbid}
 use Rattle.run.specs.Run.{Given, asked, reducedBy, laid, chosen, decided, still, notesOf, sighted, seen, drawn, turn, Turn, ended}
-use Rattle.run.specs.declared.inner.Observed.{Observed}
-use Rattle.run.specs.declared.inner.Observed.the-variants.{Cell, Nothing}
-use Rattle.run.specs.Observer.{notesIn, observe, Sight, sightOf}
-use Rattle.run.specs.Choice.{draw, taken}
+use Rattle.choice.specs.declared.inner.Observed.{Observed}
+use Rattle.choice.specs.declared.inner.Observed.the-variants.{Cell, Nothing}
+use Rattle.choice.specs.Observer.{notesIn, observe, Sight, sightOf}
+use Rattle.choice.specs.Choice.{draw, taken}
 use Rattle.run.specs.Steps.{asking}
 use Rattle.loops.proofs.TestLaws.{every-turn, every-stop, every-end}
 use Rattle.words.proofs.BitLaws.{bit-none, bit-not, bit-below, has-true, true-has}
@@ -39,8 +39,8 @@ use Rattle.words.proofs.LeastLaws.{least-below, least-found}
 use Rattle.consistency.proofs.Keep.{safe-remove, safe-forbids}
 use Rattle.propagation.proofs.LentLaws.{lent-safe, lent-after, room-after}
 use Rattle.run.proofs.StateLaws.{asked-inside}
-use Rattle.run.proofs.ChoiceLaws.{taken-in}
-use Rattle.run.proofs.ObserverLaws.{valid-weight}
+use Rattle.choice.proofs.ChoiceLaws.{taken-in}
+use Rattle.choice.proofs.ObserverLaws.{valid-weight}
 use Rattle.run.proofs.TurnLaws.{sight-counts}
 
 -- ---- removals that are asked for

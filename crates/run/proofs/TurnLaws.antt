@@ -13,14 +13,14 @@ use Rattle.consistency.specs.Domains.{possible}
 use Rattle.consistency.specs.Worklist.{State}
 use Rattle.consistency.specs.Start.{others}
 use Rattle.propagation.specs.Beside.{Beside}
-use Rattle.run.specs.declared.inner.Observed.{Observed}
-use Rattle.run.specs.declared.inner.Observed.the-variants.{Cell, Nothing}
-use Rattle.run.specs.Observer.{Notes, countsAt, observe, Sight, sightOf}
-use Rattle.run.specs.Choice.{Draw, draw, taken}
+use Rattle.choice.specs.declared.inner.Observed.{Observed}
+use Rattle.choice.specs.declared.inner.Observed.the-variants.{Cell, Nothing}
+use Rattle.choice.specs.Observer.{Notes, countsAt, observe, Sight, sightOf}
+use Rattle.choice.specs.Choice.{Draw, draw, taken}
 use Rattle.run.specs.Run.{Given, reducedBy, notesOf, sighted, Ended, ended, decided, still, chosen, Turn, drawn, seen, turn, collapse}
-use Rattle.run.proofs.DrawLaws.{draw-none, draw-left, draw-one, draw-below}
-use Rattle.run.proofs.ChoiceLaws.{taken-some, taken-in}
-use Rattle.run.proofs.ObserverLaws.{valid-counts, valid-weight, nothing-counts, observed-seen}
+use Rattle.choice.proofs.DrawLaws.{draw-none, draw-left, draw-one, draw-below}
+use Rattle.choice.proofs.ChoiceLaws.{taken-some, taken-in}
+use Rattle.choice.proofs.ObserverLaws.{valid-counts, valid-weight, nothing-counts, observed-seen}
 
 -- ---- what is sighted
 

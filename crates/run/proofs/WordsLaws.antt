@@ -14,12 +14,12 @@ use Rattle.consistency.specs.Domains.{Sub}
 use Rattle.consistency.specs.Worklist.{State}
 use Rattle.propagation.specs.Beside.{Beside}
 use Rattle.run.specs.declared.Forbid.{Forbid}
-use Rattle.run.specs.Observer.{Sight}
-use Rattle.run.specs.Choice.{Draw, draw}
+use Rattle.choice.specs.Observer.{Sight}
+use Rattle.choice.specs.Choice.{Draw, draw}
 use Rattle.run.specs.Run.{Given, sighted, notesOf, Ended, ended, Turn, drawn, seen, turn, collapse, runOf}
 use Rattle.run.specs.Course.{Lawful, Reached, forbade, chose, Final}
 use Rattle.consistency.proofs.DomainLaws.{possible-none}
-use Rattle.run.proofs.DrawLaws.{draw-longer}
+use Rattle.choice.proofs.DrawLaws.{draw-longer}
 use Rattle.run.proofs.TurnLaws.{Over, counts-open, turn-over, turn-on}
 use Rattle.run.proofs.StateLaws.{reached-stands}
 use Rattle.run.proofs.OpenLaws.{open-some}

@@ -1,6 +1,6 @@
-pub mod Observer
-pub mod Choice
+pub mod Asked
 pub mod Run
 pub mod Course
 pub mod Called
 pub mod Steps
+pub mod Stages

@@ -17,8 +17,8 @@ use Rattle.consistency.specs.Worklist.{Removal, removal, State, forbids, propag
 use Rattle.consistency.specs.Start.{start, others}
 use Rattle.propagation.specs.Beside.{Beside, beside, lessened, kept, unmarked}
 use Rattle.run.specs.declared.Forbid.{Forbid}
-use Rattle.run.specs.Observer.{Notes, notesIn, observe, Sight, sightOf}
-use Rattle.run.specs.Choice.{Draw, draw, taken}
+use Rattle.choice.specs.Observer.{Notes, notesIn, observe, Sight, sightOf}
+use Rattle.choice.specs.Choice.{Draw, draw, taken}
 
 -- what a run is given, but for its forbids and its words
 pub record Given : Type 0 where

@@ -1,24 +1,31 @@
 // The turns of a run: a choice at the cell that is observed, with the word that comes next, until nothing is observed, no word is left or a cell is empty.
 // Follows docs/RULES.md, "Run".
 ghost use mathlib.Core.Path.{_≡_};
-ghost use Prim.Native.Nat.{_%_, _<_};
+ghost use Prim.Native.Nat.{_+_, _%_, _<_};
 ghost use lib.ListN.{length, getD};
 ghost use Rattle.adjacency.specs.Tables.{table};
 ghost use Rattle.adjacency.specs.Weights.{Weighed, mask, weightSum};
-ghost use Rattle.grid.specs.Grid.{grid};
+ghost use Rattle.grid.specs.Grid.{grid, cells};
 ghost use Rattle.propagation.specs.Beside.{beside};
 ghost use Rattle.propagation.specs.Lent.{stateOf, Lent, Room, Roomy, Ground};
-ghost use Rattle.run.specs.Choice.{taken};
+ghost use Rattle.run.specs.declared.collapse.Step.{Step};
+ghost use Rattle.choice.specs.Choice.{taken};
 ghost use Rattle.run.specs.Run as run;
 ghost use Rattle.run.specs.Run.{given};
-ghost use Rattle.run.specs.Steps.{idle, turnOf};
-use crate::inner::Observed;
+ghost use Rattle.run.specs.Steps.{idle, turnOf, stopOf, Laid, endedAs};
+use choice::inner::Observed;
 use propagation::inner::Pile;
 
 // What a turn comes to: the run is over with this end, or it goes on with one more word used.
 pub(crate) enum Step {
     Over(u32),
     On(Pile),
+}
+
+// Where the turns stand: the run's end, or 4 while it goes on, and how many words are used.
+pub(crate) struct Stop {
+    pub(crate) end: u32,
+    pub(crate) used: usize,
 }
 
 // Whether every cell has one pattern.
@@ -65,7 +72,7 @@ fn choose_at(
 {
     let domain = domains[cell];
     let sum = adjacency::inner::weight_sum(weights, domain);
-    let pattern = crate::inner::choose(weights, domain, word % sum);
+    let pattern = choice::inner::choose(weights, domain, word % sum);
     crate::laying::lay(
         count,
         offsets,
@@ -113,7 +120,7 @@ fn turn(
         ≡ run.turn (given (table count (now (offsets .entry)) (now (ids .entry))) (now (weights .entry)) (grid width height mode) (now (noise .entry))) (now (words .entry)) used
         (stateOf count (now (domains .entry)) (now (counts .entry)) (now (pending .entry)) idle (beside (now (floats .entry)) (now (marks .entry)))) ⌝ }
 {
-    match crate::inner::observe(domains.len(), noise, domains, floats, marks, weighted) {
+    match choice::inner::observe(domains.len(), noise, domains, floats, marks, weighted) {
         Observed::Nothing => {
             if decided(domains) {
                 return Step::Over(0);
@@ -144,4 +151,120 @@ fn turn(
             Step::Over(2)
         }
     }
+}
+
+// One turn, and where it leaves the turns: after a choice that empties a cell the run ends as a contradiction.
+fn advance(
+    count: usize,
+    offsets: &[u32],
+    ids: &[u8],
+    weights: &[u32],
+    weighted: u64,
+    width: usize,
+    height: usize,
+    mode: usize,
+    noise: &[u32],
+    words: &[u32],
+    used: usize,
+    domains: &mut [u64],
+    counts: &mut [u8],
+    pending: &mut [u32],
+    floats: &mut [f32],
+    marks: &mut [u8],
+) -> Stop
+    requires { ⌜ Lent count (length (now domains)) (now domains) (now counts) (now pending) idle ⌝ }
+    requires { ⌜ Ground (table count (now offsets) (now ids)) (grid width height mode) (length (now domains)) ⌝ }
+    requires { ⌜ Weighed count (now weights) × Roomy (length (now domains)) (now noise) (now floats) (now marks) × (weighted ≡ mask (now weights)) ⌝ }
+    ensures { λ r. ⌜ ((step : Step) × (r ≡ stopOf step used)
+        × (turnOf step used (λ pile. stateOf count (now (domains .exit)) (now (counts .exit)) (now (pending .exit)) pile (beside (now (floats .exit)) (now (marks .exit))))
+        ≡ run.turn (given (table count (now (offsets .entry)) (now (ids .entry))) (now (weights .entry)) (grid width height mode) (now (noise .entry))) (now (words .entry)) used
+        (stateOf count (now (domains .entry)) (now (counts .entry)) (now (pending .entry)) idle (beside (now (floats .entry)) (now (marks .entry)))))) ⌝ }
+{
+    match turn(
+        count,
+        offsets,
+        ids,
+        weights,
+        weighted,
+        width,
+        height,
+        mode,
+        noise,
+        words,
+        used,
+        domains,
+        counts,
+        pending,
+        floats,
+        marks,
+    ) {
+        Step::Over(end) => Stop {
+            end: end,
+            used: used,
+        },
+        Step::On(pile) => {
+            if pile.empty {
+                return Stop {
+                    end: 3,
+                    used: used + 1,
+                };
+            }
+            Stop {
+                end: 4,
+                used: used + 1,
+            }
+        }
+    }
+}
+
+// Turn by turn to the run's end, from slices as some forbids leave them, with nothing pending and no empty cell.
+// After a contradiction the domains are those where a cell was emptied; the caller writes them as zero.
+pub(crate) fn collapse(
+    count: usize,
+    offsets: &[u32],
+    ids: &[u8],
+    weights: &[u32],
+    weighted: u64,
+    width: usize,
+    height: usize,
+    mode: usize,
+    noise: &[u32],
+    words: &[u32],
+    domains: &mut [u64],
+    counts: &mut [u8],
+    pending: &mut [u32],
+    floats: &mut [f32],
+    marks: &mut [u8],
+) -> Stop
+    requires { ⌜ Lent count (length (now domains)) (now domains) (now counts) (now pending) idle ⌝ }
+    requires { ⌜ Ground (table count (now offsets) (now ids)) (grid width height mode) (length (now domains)) ⌝ }
+    requires { ⌜ Weighed count (now weights) × Roomy (length (now domains)) (now noise) (now floats) (now marks) × (weighted ≡ mask (now weights)) ⌝ }
+    requires { ⌜ Laid (given (table count (now offsets) (now ids)) (now weights) (grid width height mode) (now noise))
+        (stateOf count (now domains) (now counts) (now pending) idle (beside (now floats) (now marks))) ⌝ }
+    ensures { λ r. ⌜ endedAs r (now (domains .exit))
+        ≡ run.collapse (given (table count (now (offsets .entry)) (now (ids .entry))) (now (weights .entry)) (grid width height mode) (now (noise .entry))) (now (words .entry)) (cells (grid width height mode) + 1) 0
+        (stateOf count (now (domains .entry)) (now (counts .entry)) (now (pending .entry)) idle (beside (now (floats .entry)) (now (marks .entry)))) ⌝ }
+{
+    let mut stop = Stop { end: 4, used: 0 };
+    while stop.end == 4 {
+        stop = advance(
+            count,
+            offsets,
+            ids,
+            weights,
+            weighted,
+            width,
+            height,
+            mode,
+            noise,
+            words,
+            stop.used,
+            domains,
+            counts,
+            pending,
+            floats,
+            marks,
+        );
+    }
+    stop
 }

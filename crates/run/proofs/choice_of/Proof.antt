@@ -9,7 +9,7 @@ use Rattle.adjacency.specs.Weights.{Bounded}
 use Rattle.logarithms.specs.Asked.{domainRefusal}
 use Rattle.refusals.proofs.RefusalLaws.{numberOf-accepted, numberOf-refused}
 use Rattle.logarithms.proofs.AskedLaws.{domain-bounded}
-use Rattle.run.proofs.ChoiceLaws.{told-refused, told-nothing, told-pattern}
+use Rattle.run.proofs.AskedLaws.{told-refused, told-nothing, told-pattern}
 use Rattle.run.proofs.choice_of.Statement.{statement}
 use Rattle.run.proofs.choice_of.Tie as tie
 

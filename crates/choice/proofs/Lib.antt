@@ -1,0 +1,4 @@
+pub mod ObserverLaws
+pub mod ChoiceLaws
+pub mod ObserverCases
+pub mod DrawLaws

@@ -1,0 +1,2 @@
+pub mod Observer
+pub mod Choice

@@ -1,0 +1,94 @@
+// The scan behind `inner::observe`: the best cell so far, and how a further cell is held against it.
+// Follows docs/RULES.md, "Run"; stands for `Observer` of the Rust, whose heap keeps old notes too: one that no longer counts never counts again,
+// so one note for each cell decides. Main property: the cell found is the least of those whose note counts.
+ghost use mathlib.Core.Path.{_≡_};
+ghost use Prim.Native.Nat.{_-_, _≤_, _<_};
+ghost use Rattle.choice.specs.Observer.{Lengths, notesIn, valid, join, candidate, bestIn};
+
+// The best cell so far, with its entropy and its noise word.
+pub(crate) enum Best {
+    At(usize, f32, u32),
+    Empty,
+}
+
+fn wide(x: u8) -> usize
+    ensures { λ r. ⌜ r ≡ x ⌝ }
+{
+    x as usize
+}
+
+// Whether a note counts. A count of 0 is no note, and is passed before any ones are counted.
+fn valid(count: usize, word: u64, weighted: u64) -> bool
+    ensures { λ r. ⌜ r ≡ valid count word weighted ⌝ }
+{
+    if count == 0 {
+        return false;
+    }
+    if words::inner::count_ones(words::inner::shared(word, weighted)) != count {
+        return false;
+    }
+    2 <= words::inner::count_ones(word)
+}
+
+// The better of the best so far and a cell that comes after it: the least entropy, then the least noise word, then the earlier cell.
+fn better(best: Best, cell: usize, entropy: f32, noise: u32) -> Best
+    ensures { λ r. ⌜ r ≡ join best (Best.At cell entropy noise) ⌝ }
+{
+    match best {
+        Best::Empty => Best::At(cell, entropy, noise),
+        Best::At(c, e, n) => {
+            if entropy < e {
+                return Best::At(cell, entropy, noise);
+            }
+            if entropy == e {
+                if noise < n {
+                    return Best::At(cell, entropy, noise);
+                }
+            }
+            Best::At(c, e, n)
+        }
+    }
+}
+
+// The best so far and cell c, where its note counts.
+fn step(
+    cells: usize,
+    noise: &[u32],
+    domains: &[u64],
+    floats: &[f32],
+    marks: &[u8],
+    weighted: u64,
+    best: Best,
+    c: usize,
+) -> Best
+    requires { ⌜ Lengths cells (now noise) (now domains) (now floats) (now marks) × (c < cells) ⌝ }
+    ensures { λ r. ⌜ r ≡ join best (candidate (notesIn cells (now (noise .entry)) (now (domains .entry)) (now (floats .entry)) (now (marks .entry)) weighted) c) ⌝ }
+{
+    if valid(wide(marks[c]), domains[c], weighted) {
+        return better(best, c, floats[cells + c], noise[c]);
+    }
+    best
+}
+
+// The best of the cells from `start` up to `end`.
+pub(crate) fn scan(
+    cells: usize,
+    noise: &[u32],
+    domains: &[u64],
+    floats: &[f32],
+    marks: &[u8],
+    weighted: u64,
+    start: usize,
+    end: usize,
+) -> Best
+    requires { ⌜ Lengths cells (now noise) (now domains) (now floats) (now marks) × (start ≤ end) × (end ≤ cells) ⌝ }
+    ensures { λ r. ⌜ r ≡ bestIn (notesIn cells (now (noise .entry)) (now (domains .entry)) (now (floats .entry)) (now (marks .entry)) weighted) start (end - start) ⌝ }
+{
+    let mut best = Best::Empty;
+    let mut c = start;
+    while c < end {
+        best = step(cells, noise, domains, floats, marks, weighted, best, c);
+        c += 1;
+    }
+    best
+}

@@ -1,0 +1,130 @@
+-- `run::collapse::advance` meets its contract: where a turn goes on, there was a word to use.
+-- Assumes nothing.
+use native.Mathlib.Omega.{arith}
+use borrow.Author.Needs.{needs}
+use Rattle.adjacency.specs.Tables.{table}
+use Rattle.grid.specs.Grid.{grid}
+use Rattle.consistency.specs.Worklist.{State}
+use Rattle.propagation.specs.Beside.{Beside, beside}
+use Rattle.propagation.specs.Lent.{stateOf}
+use Rattle.run.specs.Run.{Given, given}
+use Rattle.run.specs.Steps.{idle}
+use Rattle.run.proofs.TurnsLaws.{stop-over, stop-on, word-left}
+use Rattle.run.proofs.collapse.advance.Statement.{statement}
+use Rattle.run.proofs.collapse.advance.Tie as tie
+
+-- what the turn is given, and the state that it starts from
+abbrev input : tie.Start → Given
+input s = given (table (s .args .count) (s .args .offsets .now) (s .args .ids .now)) (s .args .weights .now) (grid (s .args .width) (s .args .height) (s .args .mode)) (s .args .noise .now)
+
+abbrev entry : tie.Start → State Beside
+entry s = stateOf (s .args .count) (s .args .domains .now) (s .args .counts .now) (s .args .pending .now) idle (beside (s .args .floats .now) (s .args .marks .now))
+
+turn-requires : tie.Need-turn-requires
+turn-requires c κs = search needs
+
+enum-known-end : tie.Need-enum-known-end
+enum-known-end c = search needs
+
+enum-known-pile : tie.Need-enum-known-pile
+enum-known-pile c = search needs
+
+add-t32 : tie.Need-add-t32
+add-t32 c =
+    let called = c .before .before .before .before .before .before .before .before .before .before .before .before .before .before in
+    let s = called .before .before .before .before .before .before .before .before .before .before .before .before .before .before .before .before in
+    omega (arith, word-left (input s) (s .args .words .now) (s .args .used) (entry s) _ (c .before .before .pile .given .1) (called .turn .ensures), s .good .1 .1 .1 .1 .1 .1 .1 .1 .1 .0)
+
+same-length : tie.Need-same-length
+same-length c = search needs
+
+same-length-2 : tie.Need-same-length-2
+same-length-2 c = search needs
+
+same-length-3 : tie.Need-same-length-3
+same-length-3 c = search needs
+
+same-length-4 : tie.Need-same-length-4
+same-length-4 c = search needs
+
+same-length-5 : tie.Need-same-length-5
+same-length-5 c = search needs
+
+returns : tie.Need-returns
+returns c =
+    let called = c .before .before .before .before .before .before .before .before .before .before .before .before .before .before in
+    (called .turn .result, stop-on _ (c .before .before .pile .given .1) (c .if1 .taken), called .turn .ensures)
+
+add-t33 : tie.Need-add-t33
+add-t33 c =
+    let called = c .before .before .before .before .before .before .before .before .before .before .before .before .before .before in
+    let s = called .before .before .before .before .before .before .before .before .before .before .before .before .before .before .before .before in
+    omega (arith, word-left (input s) (s .args .words .now) (s .args .used) (entry s) _ (c .before .before .pile .given .1) (called .turn .ensures), s .good .1 .1 .1 .1 .1 .1 .1 .1 .1 .0)
+
+same-length-6 : tie.Need-same-length-6
+same-length-6 c = search needs
+
+same-length-7 : tie.Need-same-length-7
+same-length-7 c = search needs
+
+same-length-8 : tie.Need-same-length-8
+same-length-8 c = search needs
+
+same-length-9 : tie.Need-same-length-9
+same-length-9 c = search needs
+
+same-length-10 : tie.Need-same-length-10
+same-length-10 c = search needs
+
+returns-2 : tie.Need-returns-2
+returns-2 c =
+    let called = c .before .before .before .before .before .before .before .before .before .before .before .before .before in
+    (called .turn .result, stop-over _ (c .before .end .given .1), called .turn .ensures)
+
+same-length-11 : tie.Need-same-length-11
+same-length-11 c = search needs
+
+same-length-12 : tie.Need-same-length-12
+same-length-12 c = search needs
+
+same-length-13 : tie.Need-same-length-13
+same-length-13 c = search needs
+
+same-length-14 : tie.Need-same-length-14
+same-length-14 c = search needs
+
+same-length-15 : tie.Need-same-length-15
+same-length-15 c = search needs
+
+returns-3 : tie.Need-returns-3
+returns-3 c =
+    let called = c .before .before .before .before .before .before .before .before .before .before .before .before .before .before in
+    (called .turn .result, stop-on _ (c .before .before .pile .given .1) (c .if1 .left), called .turn .ensures)
+
+pub advance-spec : {M : Type 1} → statement M
+advance-spec =
+    tie.close
+    (tie.spec
+    turn-requires
+    enum-known-end
+    enum-known-pile
+    add-t32
+    same-length
+    same-length-2
+    same-length-3
+    same-length-4
+    same-length-5
+    returns
+    add-t33
+    same-length-6
+    same-length-7
+    same-length-8
+    same-length-9
+    same-length-10
+    returns-2
+    same-length-11
+    same-length-12
+    same-length-13
+    same-length-14
+    same-length-15
+    returns-3)

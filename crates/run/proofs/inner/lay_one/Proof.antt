@@ -1,0 +1,78 @@
+-- `run::inner::lay_one` meets its contract: a pile that emptied no cell has nothing pending.
+-- Assumes nothing.
+use borrow.Author.Needs.{needs}
+use Rattle.run.specs.Steps.{asking}
+use Rattle.run.proofs.StandingLaws.{standing-lent, standing-ground, standing-room, lay-contradicted, lay-standing}
+use Rattle.run.proofs.inner.lay_one.Statement.{statement}
+use Rattle.run.proofs.inner.lay_one.Tie as tie
+
+weighted-mask-requires : tie.Need-weighted-mask-requires
+weighted-mask-requires c κs = search needs
+
+lay-requires : tie.Need-lay-requires
+lay-requires c κs =
+    let (S, hc, hp) = c .before .before .before .before .before .before .before .before .before .before .before .before .before .before .before .before .pre in
+    (standing-lent S, (standing-ground S, ((standing-room S, c .before .before .before .before .before .weighted-mask .ensures), (hc, hp))))
+
+same-length : tie.Need-same-length
+same-length c = search needs
+
+same-length-2 : tie.Need-same-length-2
+same-length-2 c = search needs
+
+same-length-3 : tie.Need-same-length-3
+same-length-3 c = search needs
+
+same-length-4 : tie.Need-same-length-4
+same-length-4 c = search needs
+
+same-length-5 : tie.Need-same-length-5
+same-length-5 c = search needs
+
+returns : tie.Need-returns
+returns c =
+    let laid = c .before .before .before .before .before .before .before .before .before .before .before in
+    let s = laid .before .before .before .before .before .before .before .before .before .before .before .before .before .before .before .before .before in
+    let (S, hc, hp) = s .pre in
+    lay-contradicted S (asking (s .args .cell) (s .args .pattern) (s .args .keep)) hc hp _ (laid .lay .result) (laid .lay .ensures) (c .if1 .taken)
+
+same-length-6 : tie.Need-same-length-6
+same-length-6 c = search needs
+
+same-length-7 : tie.Need-same-length-7
+same-length-7 c = search needs
+
+same-length-8 : tie.Need-same-length-8
+same-length-8 c = search needs
+
+same-length-9 : tie.Need-same-length-9
+same-length-9 c = search needs
+
+same-length-10 : tie.Need-same-length-10
+same-length-10 c = search needs
+
+returns-2 : tie.Need-returns-2
+returns-2 c =
+    let laid = c .before .before .before .before .before .before .before .before .before .before .before in
+    let s = laid .before .before .before .before .before .before .before .before .before .before .before .before .before .before .before .before .before in
+    let (S, hc, hp) = s .pre in
+    lay-standing S (asking (s .args .cell) (s .args .pattern) (s .args .keep)) hc hp _ (laid .lay .result) (laid .lay .ensures) (c .if1 .left)
+
+pub lay-one-spec : {M : Type 1} → statement M
+lay-one-spec =
+    tie.close
+    (tie.spec
+    weighted-mask-requires
+    lay-requires
+    same-length
+    same-length-2
+    same-length-3
+    same-length-4
+    same-length-5
+    returns
+    same-length-6
+    same-length-7
+    same-length-8
+    same-length-9
+    same-length-10
+    returns-2)

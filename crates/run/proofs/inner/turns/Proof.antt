@@ -1,0 +1,65 @@
+-- `run::inner::turns` meets its contract: the answer tells the end of the turns, and the domains are zero where that is a contradiction.
+-- Assumes nothing.
+use borrow.Author.Needs.{needs}
+use Rattle.run.specs.Called.{Memory, memory}
+use Rattle.run.proofs.StandingLaws.{standing-lent, standing-ground, standing-roomy, stop-most, room-same, turns-concluded}
+use Rattle.run.proofs.inner.turns.Statement.{statement}
+use Rattle.run.proofs.inner.turns.Tie as tie
+
+-- the lent slices at entry
+abbrev entry : tie.Start → Memory
+entry s = memory (s .args .domains .now) (s .args .counts .now) (s .args .pending .now) (s .args .floats .now) (s .args .marks .now)
+
+weighted-mask-requires : tie.Need-weighted-mask-requires
+weighted-mask-requires c κs = search needs
+
+collapse-requires : tie.Need-collapse-requires
+collapse-requires c κs =
+    let S = c .before .before .before .before .before .before .before .before .before .before .before .before .before .before .before .before .pre in
+    (standing-lent S, (standing-ground S, ((S .laid .lawful .weighed, standing-roomy S, c .before .before .before .before .before .weighted-mask .ensures), S .laid)))
+
+finish-requires : tie.Need-finish-requires
+finish-requires c κs = search needs
+
+answer-requires : tie.Need-answer-requires
+answer-requires c κs =
+    let turned = c .before .before .before .before .before .before .before .before .before .before .before .before .before .before .before .before .before .before .before .before .before .before .before .before .before .before .before in
+    let s = turned .before .before .before .before .before .before .before .before .before .before .before .before .before .before .before .before .before in
+    stop-most (s .pre) (s .args .words .now) (turned .collapse .result) _ (turned .collapse .ensures)
+
+same-length : tie.Need-same-length
+same-length c = search needs
+
+same-length-2 : tie.Need-same-length-2
+same-length-2 c = search needs
+
+same-length-3 : tie.Need-same-length-3
+same-length-3 c = search needs
+
+same-length-4 : tie.Need-same-length-4
+same-length-4 c = search needs
+
+same-length-5 : tie.Need-same-length-5
+same-length-5 c = search needs
+
+returns : tie.Need-returns
+returns c =
+    let turned = c .before .before .before .before .before .before .before .before .before .before .before .before .before .before .before .before .before .before .before .before .before .before .before .before .before .before .before .before in
+    let s = turned .before .before .before .before .before .before .before .before .before .before .before .before .before .before .before .before .before in
+    turns-concluded (s .pre) (s .args .words .now) (turned .collapse .result) _ (turned .collapse .ensures) (c .answer .ensures) (c .before .before .before .before .before .before .before .before .before .before .before .finish .ensures)
+    (room-same (entry s) (turned .collapse .kept .1 .1 .1 .1 .1 .1 .1 .1 .1 .1))
+
+pub turns-spec : {M : Type 1} → statement M
+turns-spec =
+    tie.close
+    (tie.spec
+    weighted-mask-requires
+    collapse-requires
+    finish-requires
+    answer-requires
+    same-length
+    same-length-2
+    same-length-3
+    same-length-4
+    same-length-5
+    returns)
