@@ -18,13 +18,15 @@ use Rattle.refusals.specs.declared.Refusal.the-variants.{BadSheet, BadLength}
 use Rattle.refusals.specs.Refusals.{Test, _gives_, number, firstOf, refused, answer}
 use Rattle.sheet.specs.declared.Measures.{Measures}
 use Rattle.sheet.specs.declared.Written.the-variants.{Bytes, Refused}
-use Rattle.sheet.specs.Sheet.{bytesOf}
-use Rattle.sheet.specs.Reading.{wellFormed, sheetIn}
-use Rattle.sheet.specs.Called.{scalarTests, contentTests, sheetTests, formTest, measured, sizesTold, sizesAsked, Lent, readMisfit, readTests, filled, readOutcome, readAt, readCalled, writeMisfit, writeTests, sheetFor, writtenTold, writeOutcome, writeAt, writeCalled}
-use Rattle.sheet.specs.Tables.{tableOf}
-use Rattle.sheet.proofs.ReadingLaws.{scalars-is}
+use Rattle.layout.specs.Sheet.{bytesOf}
+use Rattle.layout.specs.Reading.{wellFormed, sheetIn}
+use Rattle.layout.specs.Tables.{sheetFor, tableOf}
+use Rattle.layout.specs.Lending.{Lent, filled}
+use Rattle.sheet.specs.Called.{scalarTests, contentTests, sheetTests, formTest, measured, sizesTold, sizesAsked, readMisfit, readTests, readOutcome, readAt, readCalled, writeMisfit, writeTests, writtenTold, writeOutcome, writeAt, writeCalled}
+use Rattle.sheet.proofs.MeasureLaws.{scalars-is}
 use Rattle.records.proofs.LayingLaws.{laid-over}
-use Rattle.sheet.proofs.WritingLaws.{storable, storable-size}
+use Rattle.layout.proofs.WritingLaws.{fitting-size}
+use Rattle.sheet.proofs.StorableLaws.{storable}
 use Rattle.refusals.proofs.RefusalLaws.{number-positive, first-append, first-most, first-here, first-next, first-empty, checked-accepted, checked-refused}
 use Rattle.sheet.specs.declared.SizesAnswer.the-variants as sizes
 
@@ -137,7 +139,7 @@ module _ (t : Table) (weights : List ℕ) (g : Grid) (forbids out : List ℕ) wh
       write-done e f =
           let (S, room) = storable t weights g forbids (length out) scalars lengths e in
           write-accepted (sheet-content (writeMisfit t weights forbids (length out)) t weights g forbids scalars lengths ∙ e)
-          (omega (arith, storable-size t weights g forbids S)) f
+          (omega (arith, fitting-size t weights g forbids (S .fitting))) f
 
 -- ---- read
 

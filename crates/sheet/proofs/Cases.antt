@@ -9,10 +9,11 @@ use Rattle.refusals.specs.Refusals.{refused, answer}
 use Rattle.adjacency.specs.Tables.{table}
 use Rattle.grid.specs.Grid.{grid}
 use Rattle.run.specs.Run.{ended}
-use Rattle.sheet.specs.Sheet.{Sheet, sheet, bytesOf}
-use Rattle.sheet.specs.Reading.{wellFormed, sheetIn}
+use Rattle.layout.specs.Sheet.{Sheet, sheet, bytesOf}
+use Rattle.layout.specs.Reading.{wellFormed, sheetIn}
 use Rattle.sheet.specs.Result.{resultOf}
-use Rattle.sheet.specs.Called.{sizesAsked, lent, readOutcome, readCalled, writeOutcome, writeCalled}
+use Rattle.layout.specs.Lending.{lent}
+use Rattle.sheet.specs.Called.{sizesAsked, readOutcome, readCalled, writeOutcome, writeCalled}
 
 -- one pattern of weight 1 that may stand beside itself, on one cell without wrap
 abbrev pub smallest : Sheet

@@ -19,21 +19,23 @@ use Rattle.grid.specs.Grid.{Grid, cells, badSide, badSize, badWrap, Sized}
 use Rattle.run.specs.declared.Forbid.{Forbid}
 use Rattle.run.specs.Course.{Placed}
 use Rattle.run.specs.Called.{placeTests, forbidTests, forbidsOf, recordsIn}
-use Rattle.sheet.specs.Sheet.{Sheet, sheet, bytesOf, listBytes}
-use Rattle.sheet.specs.Tables.{tableOf, listsFrom, listsOf, joined, stored}
-use Rattle.sheet.specs.Reading.{fromLists, fromForbids, countIn, wellFormed, sheetIn, kindsFit}
-use Rattle.sheet.specs.Called.{scalarTests, contentTests, sheetTests, formTest, measured, Lent, lent, readMisfit, readTests, filled, readOutcome, readAt, readCalled, writeMisfit, writeTests, sheetFor, writeOutcome, writeAt, writeCalled}
+use Rattle.layout.specs.Sheet.{Sheet, sheet, bytesOf, listBytes}
+use Rattle.layout.specs.Tables.{tableOf, listsFrom, listsOf, joined, stored, sheetFor}
+use Rattle.layout.specs.Reading.{fromLists, fromForbids, countIn, wellFormed, sheetIn, kindsFit}
+use Rattle.layout.specs.Lending.{Lent, lent, filled}
+use Rattle.sheet.specs.Called.{scalarTests, contentTests, sheetTests, formTest, measured, readMisfit, readTests, readOutcome, readAt, readCalled, writeMisfit, writeTests, writeOutcome, writeAt, writeCalled}
 use Rattle.sheet.specs.Storable.{Storable}
 use Rattle.records.proofs.RecordLaws.{Bytes}
 use Rattle.refusals.proofs.RefusalLaws.{Passed, first-passed, passed-first, first-next}
 use Rattle.adjacency.proofs.WeightLaws.{weighed-good}
 use Rattle.adjacency.proofs.AcceptedLaws.{accepted-complete, long-good}
 use Rattle.grid.proofs.GridLaws.{cell-inside}
-use Rattle.sheet.proofs.ShapeLaws.{Formed, formed}
-use Rattle.sheet.proofs.ReadingLaws.{count-is, ids-is, listsIn-length, offsets-many, forbids-bytes}
-use Rattle.sheet.proofs.WritingLaws.{storable, storable-size, ids-most, bytes-size, stored-three}
-use Rattle.sheet.proofs.TableLaws.{offsetsFrom-listsOf, joined-listsOf, listsOf-tableOf, stored-same, kindsFit-stored, forbidTests-stored}
-use Rattle.sheet.proofs.InverseLaws.{listBytes-listsIn, Whole, sheetIn-bytesOf, bytesOf-sheetIn}
+use Rattle.layout.proofs.ShapeLaws.{Formed, formed}
+use Rattle.layout.proofs.ReadingLaws.{count-is, ids-is, listsIn-length, offsets-many, forbids-bytes}
+use Rattle.layout.proofs.WritingLaws.{fitting-size, ids-most, bytes-size, stored-three}
+use Rattle.sheet.proofs.StorableLaws.{storable, forbidTests-stored}
+use Rattle.layout.proofs.TableLaws.{offsetsFrom-listsOf, joined-listsOf, listsOf-tableOf, stored-same, kindsFit-stored}
+use Rattle.layout.proofs.InverseLaws.{listBytes-listsIn, Whole, sheetIn-bytesOf, bytesOf-sheetIn}
 use Rattle.sheet.proofs.CalledLaws.{sheet-content, writeMisfit-is}
 
 -- ---- what no refusal says of the tests
@@ -63,16 +65,16 @@ module _ (t : Table) (weights : List ℕ) (g : Grid) (forbids : List ℕ) (S : S
   unfolding sheetFor listsOf
   whole-written =
       record {
-        lists = listsFrom-length t 0 (4 * t .count) ∙ sym (ap (λ (n : ℕ). 4 * n) (S .weighed .one-each));
+        lists = listsFrom-length t 0 (4 * t .count) ∙ sym (ap (λ (n : ℕ). 4 * n) (S .fitting .weighed .one-each));
         threes = omega (arith, stored-three forbids);
-        few = omega (arith, stored-three forbids, S .few);
+        few = omega (arith, stored-three forbids, S .fitting .few);
         kinds = kindsFit-stored forbids;
       }
 
   pub table-written : tableOf (sheetFor t weights g forbids) ≡ t
   unfolding sheetFor tableOf
   table-written =
-      λ j. table (S .weighed .one-each j) (offsetsFrom-listsOf t (S .accepted .listed) j) (joined-listsOf t (S .accepted .listed) j)
+      λ j. table (S .fitting .weighed .one-each j) (offsetsFrom-listsOf t (S .fitting .accepted .listed) j) (joined-listsOf t (S .fitting .accepted .listed) j)
 
   -- the tests of what is read back are those of what was written
   content-written : contentTests (tableOf (sheetFor t weights g forbids)) weights g (stored forbids) ≡ contentTests t weights g forbids
@@ -117,7 +119,7 @@ module _ (t : Table) (weights : List ℕ) (g : Grid) (forbids : List ℕ) (room 
 -- at most 64 patterns, 64 ids in each of their lists, and 4,096 forbids
 pub longest : (t : Table) (weights : List ℕ) (g : Grid) (forbids : List ℕ) → Storable t weights g forbids → length (bytesOf (sheetFor t weights g forbids)) ≤ 41376
 longest t weights g forbids S =
-    omega (arith, storable-size t weights g forbids S, ids-most t (S .accepted), S .accepted .few, S .few)
+    omega (arith, fitting-size t weights g forbids (S .fitting), ids-most t (S .fitting .accepted), S .fitting .accepted .few, S .fitting .few)
 
 -- ---- what was read is written
 
@@ -253,17 +255,17 @@ wrap-good g z = le-ltb 3 (g .mode) (z .known)
 module _ (t : Table) (weights : List ℕ) (g : Grid) (forbids : List ℕ) (S : Storable t weights g forbids) where
   records-stored : recordsIn forbids ≡ length forbids / 3
   unfolding recordsIn
-  records-stored = rw (eq-eqb (length forbids % 3) 0 (S .threes))
+  records-stored = rw (eq-eqb (length forbids % 3) 0 (S .fitting .threes))
 
   pub write-accepts : (room : ℕ) → length (bytesOf (sheetFor t weights g forbids)) ≤ room → firstOf (writeTests t weights g forbids room) ≡ 0
   unfolding writeTests sheetTests scalarTests contentTests
   write-accepts room h =
-      let (count, offset, list, agreement) = accepted-complete t (S .accepted) in
-      let (one, heavy) = weighed-good (S .weighed) in
-      let third : length forbids ≡ 3 * (length forbids / 3) = omega (arith, S .threes) in
+      let (count, offset, list, agreement) = accepted-complete t (S .fitting .accepted) in
+      let (one, heavy) = weighed-good (S .fitting .weighed) in
+      let third : length forbids ≡ 3 * (length forbids / 3) = omega (arith, S .fitting .threes) in
       let needed = 32 + 6 * t .count + length (t .ids) + 6 * recordsIn forbids in
       let lengths : writeMisfit t weights forbids room ≡ false =
-      writeMisfit-is t weights forbids room one offset (le-ltb 4096 (recordsIn forbids) (omega (arith, records-stored, S .few)))
-      (le-ltb room needed (omega (arith, records-stored, storable-size t weights g forbids S))) in
+      writeMisfit-is t weights forbids room one offset (le-ltb 4096 (recordsIn forbids) (omega (arith, records-stored, S .fitting .few)))
+      (le-ltb room needed (omega (arith, records-stored, fitting-size t weights g forbids (S .fitting)))) in
       passed-first (writeTests t weights g forbids room)
-      (count, (size-good g (S .sized), (wrap-good g (S .sized), (lengths, (heavy, (list, (agreement, placed-passes t g (forbidsOf forbids) (S .placed))))))))
+      (count, (size-good g (S .fitting .sized), (wrap-good g (S .fitting .sized), (lengths, (heavy, (list, (agreement, placed-passes t g (forbidsOf forbids) (S .placed))))))))

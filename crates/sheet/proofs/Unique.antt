@@ -7,7 +7,8 @@ use Rattle.adjacency.specs.Tables.{Table}
 use Rattle.grid.specs.Grid.{Grid}
 use Rattle.sheet.specs.declared.SizesAnswer.{SizesAnswer}
 use Rattle.sheet.specs.declared.Written.{Written}
-use Rattle.sheet.specs.Called.{sizesTold, sizesAsked, Lent, ReadOutcome, readOutcome, readCalled, writtenTold, WriteOutcome, writeOutcome, writeCalled}
+use Rattle.layout.specs.Lending.{Lent}
+use Rattle.sheet.specs.Called.{sizesTold, sizesAsked, ReadOutcome, readOutcome, readCalled, writtenTold, WriteOutcome, writeOutcome, writeCalled}
 use Rattle.refusals.proofs.RefusalLaws.{number-injective}
 use Rattle.sheet.specs.declared.SizesAnswer.the-variants as sizes
 use Rattle.sheet.specs.declared.Written.the-variants as written

@@ -15,9 +15,10 @@ use Rattle.run.specs.Called.{forbidTests, forbidsOf, recordsIn}
 use Rattle.sheet.specs.declared.Measures.{Measures}
 use Rattle.sheet.specs.declared.SizesAnswer.{SizesAnswer}
 use Rattle.sheet.specs.declared.Written.{Written}
-use Rattle.sheet.specs.Sheet.{Sheet, sheet, bytesOf}
-use Rattle.sheet.specs.Tables.{tableOf, joined, listsOf, stored}
-use Rattle.sheet.specs.Reading.{wellFormed, sheetIn}
+use Rattle.layout.specs.Sheet.{Sheet, sheet, bytesOf}
+use Rattle.layout.specs.Tables.{tableOf, joined, sheetFor}
+use Rattle.layout.specs.Lending.{Lent, filled}
+use Rattle.layout.specs.Reading.{wellFormed, sheetIn}
 use Rattle.sheet.specs.declared.SizesAnswer.the-variants as sizes
 use Rattle.sheet.specs.declared.Written.the-variants as written
 
@@ -71,16 +72,6 @@ sizesAsked b = checked (formTest b ∷ []) (measured (sheetIn b))
 
 -- ---- read
 
--- the lent slices that are read into
-pub record Lent : Type 0 where
-  pub weights : List ℕ
-  pub offsets : List ℕ
-  pub ids : List ℕ
-  pub forbids : List ℕ
-
-abbrev pub lent : List ℕ → List ℕ → List ℕ → List ℕ → Lent
-lent weights offsets ids forbids = record { weights = weights; offsets = offsets; ids = ids; forbids = forbids }
-
 -- slices of these lengths are not a weight for each pattern and 4P + 1 offsets, or have no room for the ids and the forbids
 unfoldable pub readMisfit : Measures → ℕ → ℕ → ℕ → ℕ → Bool
 readMisfit m weights offsets ids forbids =
@@ -92,12 +83,6 @@ readTests b m =
     let s = sheetIn b in
     let misfit = readMisfit (measured s) (length (m .weights)) (length (m .offsets)) (length (m .ids)) (length (m .forbids)) in
     formTest b ∷ sheetTests misfit (tableOf s) (s .weights) (s .grid) (s .forbids)
-
--- the sheet in the lent slices; what stands past its last id and its last forbid stays
-unfoldable pub filled : Sheet → Lent → Lent
-unfolding tableOf over
-filled s m =
-    lent (over (s .weights) (m .weights)) (over (tableOf s .offsets) (m .offsets)) (over (tableOf s .ids) (m .ids)) (over (s .forbids) (m .forbids))
 
 -- what a call comes to: what is told, and what the lent slices hold
 pub record ReadOutcome : Type 0 where
@@ -131,11 +116,6 @@ writeMisfit t weights forbids room =
 unfoldable pub writeTests : Table → List ℕ → Grid → List ℕ → ℕ → List Test
 unfolding sheetTests writeMisfit
 writeTests t weights g forbids room = sheetTests (writeMisfit t weights forbids room) t weights g forbids
-
--- the sheet that is written
-unfoldable pub sheetFor : Table → List ℕ → Grid → List ℕ → Sheet
-unfolding listsOf stored
-sheetFor t weights g forbids = sheet weights (listsOf t) g (stored forbids)
 
 -- what an answer tells: the number of bytes
 unfoldable pub writtenTold : Written → Asked ℕ

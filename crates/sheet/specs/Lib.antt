@@ -1,6 +1,3 @@
-pub mod Sheet
-pub mod Tables
-pub mod Reading
 pub mod Called
 pub mod Storable
 pub mod Result

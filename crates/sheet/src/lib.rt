@@ -3,13 +3,12 @@
 ghost use mathlib.Core.Path.{_≡_};
 ghost use Rattle.adjacency.specs.Tables.{table};
 ghost use Rattle.grid.specs.Grid.{grid};
-ghost use Rattle.sheet.specs.Called.{sizesTold, sizesAsked, lent, readOutcome, readCalled, writtenTold, writeOutcome, writeCalled};
+ghost use Rattle.layout.specs.Lending.{lent};
+ghost use Rattle.sheet.specs.Called.{sizesTold, sizesAsked, readOutcome, readCalled, writtenTold, writeOutcome, writeCalled};
 use refusals::Refusal;
 
 mod check;
 mod reading;
-mod shape;
-mod writing;
 
 // How much a sheet holds: patterns, ids, the grid, and forbids.
 pub struct Measures {
@@ -37,7 +36,7 @@ pub enum Written {
 pub fn sizes(sheet: &[u8]) -> SizesAnswer
     ensures { λ r. ⌜ sizesTold r ≡ sizesAsked (now (sheet .entry)) ⌝ }
 {
-    if !shape::well_formed(sheet) {
+    if !layout::inner::shape::well_formed(sheet) {
         return SizesAnswer::Refused(Refusal::BadSheet);
     }
     SizesAnswer::Sheet(reading::measure(sheet))
@@ -54,7 +53,7 @@ pub fn read(
     ensures { λ r. ⌜ readOutcome (sizesTold r) (lent (now (weights .exit)) (now (offsets .exit)) (now (ids .exit)) (now (forbids .exit)))
         ≡ readCalled (now (sheet .entry)) (lent (now (weights .entry)) (now (offsets .entry)) (now (ids .entry)) (now (forbids .entry))) ⌝ }
 {
-    if !shape::well_formed(sheet) {
+    if !layout::inner::shape::well_formed(sheet) {
         return SizesAnswer::Refused(Refusal::BadSheet);
     }
     let m = reading::measure(sheet);
@@ -69,7 +68,7 @@ pub fn read(
     if refusal != 0 {
         return SizesAnswer::Refused(refusals::inner::refusal(refusal));
     }
-    reading::fill(sheet, weights, offsets, ids, forbids);
+    layout::inner::filling::fill(sheet, weights, offsets, ids, forbids);
     SizesAnswer::Sheet(m)
 }
 
@@ -100,7 +99,7 @@ pub fn write(
     if refusal != 0 {
         return Written::Refused(refusals::inner::refusal(refusal));
     }
-    Written::Bytes(writing::lay_sheet(
+    Written::Bytes(layout::inner::writing::lay_sheet(
         count,
         weights,
         offsets,

@@ -5,13 +5,15 @@ use native.Mathlib.Omega.{arith}
 use borrow.Author.Needs.{needs}
 use borrow.Author.Tests.{not-true, not-false}
 use Rattle.grid.specs.Grid.{grid}
-use Rattle.sheet.specs.Tables.{tableOf}
-use Rattle.sheet.specs.Reading.{sheetIn}
-use Rattle.sheet.specs.Called.{scalarTests, contentTests, lent}
+use Rattle.layout.specs.Tables.{tableOf}
+use Rattle.layout.specs.Reading.{sheetIn}
+use Rattle.layout.specs.Lending.{lent}
+use Rattle.sheet.specs.Called.{scalarTests, contentTests}
 use Rattle.adjacency.proofs.AcceptedLaws.{counted}
-use Rattle.sheet.proofs.ShapeLaws.{formed}
-use Rattle.sheet.proofs.ReadingLaws.{known, roomy-lent, count-is}
-use Rattle.sheet.proofs.WritingLaws.{scalars-good}
+use Rattle.layout.proofs.ShapeLaws.{formed}
+use Rattle.layout.proofs.ReadingLaws.{count-is}
+use Rattle.sheet.proofs.MeasureLaws.{known, roomy-lent}
+use Rattle.sheet.proofs.StorableLaws.{scalars-good}
 use Rattle.sheet.proofs.CalledLaws.{names, read-form, read-scalar, read-length, read-content, read-done}
 use Rattle.sheet.proofs.read.Statement.{statement}
 use Rattle.sheet.proofs.read.Tie as tie

@@ -7,7 +7,7 @@ use Rattle.adjacency.specs.Tables.{table}
 use Rattle.grid.specs.Grid.{grid}
 use Rattle.sheet.specs.Called.{scalarTests, contentTests}
 use Rattle.adjacency.proofs.AcceptedLaws.{counted}
-use Rattle.sheet.proofs.WritingLaws.{scalars-good, storable, lengths-long}
+use Rattle.sheet.proofs.StorableLaws.{scalars-good, storable, lengths-long}
 use Rattle.sheet.proofs.CalledLaws.{names, write-scalar, write-length, write-content, write-done}
 use Rattle.sheet.proofs.write.Statement.{statement}
 use Rattle.sheet.proofs.write.Tie as tie
@@ -37,7 +37,10 @@ returns-3 : tie.Need-returns-3
 returns-3 c = write-content (table (c .before .before .before .before .before .before .before .before .before .before .before .before .args .count) (c .before .before .before .before .before .before .before .before .before .before .before .before .args .offsets .now) (c .before .before .before .before .before .before .before .before .before .before .before .before .args .ids .now)) (c .before .before .before .before .before .before .before .before .before .before .before .before .args .weights .now) (grid (c .before .before .before .before .before .before .before .before .before .before .before .before .args .width) (c .before .before .before .before .before .before .before .before .before .before .before .before .args .height) (c .before .before .before .before .before .before .before .before .before .before .before .before .args .mode)) (c .before .before .before .before .before .before .before .before .before .before .before .before .args .forbids .now) (c .before .before .before .before .before .before .before .before .before .before .before .before .args .out .now) (sym (c .before .before .before .before .before .before .judge-scalars .ensures) ∙ c .before .before .before .before .before .if1 .left) (sym (c .before .before .before .before .write-misfit .ensures) ∙ c .before .before .before .if2 .left) (c .before .before .judge-content .ensures) (c .refusal2 .result) (c .refusal2 .ensures)
 
 lay-sheet-requires : tie.Need-lay-sheet-requires
-lay-sheet-requires c κs = storable (table (c .before .before .before .before .before .before .before .before .before .before .before .before .args .count) (c .before .before .before .before .before .before .before .before .before .before .before .before .args .offsets .now) (c .before .before .before .before .before .before .before .before .before .before .before .before .args .ids .now)) (c .before .before .before .before .before .before .before .before .before .before .before .before .args .weights .now) (grid (c .before .before .before .before .before .before .before .before .before .before .before .before .args .width) (c .before .before .before .before .before .before .before .before .before .before .before .before .args .height) (c .before .before .before .before .before .before .before .before .before .before .before .before .args .mode)) (c .before .before .before .before .before .before .before .before .before .before .before .before .args .forbids .now) (length (c .before .before .before .before .before .before .before .before .before .before .before .before .args .out .now)) (sym (c .before .before .before .before .before .before .judge-scalars .ensures) ∙ c .before .before .before .before .before .if1 .left) (sym (c .before .before .before .before .write-misfit .ensures) ∙ c .before .before .before .if2 .left) (sym (c .before .before .judge-content .ensures) ∙ c .before .if3 .left)
+lay-sheet-requires c κs =
+    let (S, room) =
+    storable (table (c .before .before .before .before .before .before .before .before .before .before .before .before .args .count) (c .before .before .before .before .before .before .before .before .before .before .before .before .args .offsets .now) (c .before .before .before .before .before .before .before .before .before .before .before .before .args .ids .now)) (c .before .before .before .before .before .before .before .before .before .before .before .before .args .weights .now) (grid (c .before .before .before .before .before .before .before .before .before .before .before .before .args .width) (c .before .before .before .before .before .before .before .before .before .before .before .before .args .height) (c .before .before .before .before .before .before .before .before .before .before .before .before .args .mode)) (c .before .before .before .before .before .before .before .before .before .before .before .before .args .forbids .now) (length (c .before .before .before .before .before .before .before .before .before .before .before .before .args .out .now)) (sym (c .before .before .before .before .before .before .judge-scalars .ensures) ∙ c .before .before .before .before .before .if1 .left) (sym (c .before .before .before .before .write-misfit .ensures) ∙ c .before .before .before .if2 .left) (sym (c .before .before .judge-content .ensures) ∙ c .before .if3 .left) in
+    (S .fitting, room)
 
 same-length : tie.Need-same-length
 same-length c = search needs

@@ -6,9 +6,10 @@ use native.Mathlib.Omega.{arith}
 use lib.ListN.{length}
 use borrow.Author.Needs.{needs}
 use Rattle.refusals.specs.Refusals.{firstOf}
-use Rattle.sheet.specs.Reading.{sheetIn}
-use Rattle.sheet.proofs.ShapeLaws.{formed}
-use Rattle.sheet.proofs.ReadingLaws.{Known, known, Parts, read-parts, roomy-own, judged-is, part-fits, count-is}
+use Rattle.layout.specs.Reading.{sheetIn}
+use Rattle.layout.proofs.ShapeLaws.{formed}
+use Rattle.layout.proofs.ReadingLaws.{roomy-own, count-is}
+use Rattle.sheet.proofs.MeasureLaws.{Known, known, Parts, read-parts, judged-is, part-fits}
 use Rattle.sheet.proofs.reading.judge_sheet.Statement.{statement}
 use Rattle.sheet.proofs.reading.judge_sheet.Tie as tie
 

@@ -7,8 +7,9 @@ use native.Mathlib.Omega.{arith}
 use lib.ListN.{length}
 use borrow.Author.Needs.{needs}
 use Rattle.records.specs.Numbers.{u16At}
-use Rattle.sheet.proofs.ShapeLaws.{formed}
-use Rattle.sheet.proofs.ReadingLaws.{ids-is, measured-is}
+use Rattle.layout.proofs.ShapeLaws.{formed}
+use Rattle.layout.proofs.ReadingLaws.{ids-is}
+use Rattle.sheet.proofs.MeasureLaws.{measured-is}
 use Rattle.sheet.proofs.reading.measure.Statement.{statement}
 use Rattle.sheet.proofs.reading.measure.Tie as tie
 

@@ -1,0 +1,5 @@
+pub mod ShapeLaws
+pub mod ReadingLaws
+pub mod WritingLaws
+pub mod TableLaws
+pub mod InverseLaws

@@ -1,0 +1,4 @@
+pub mod Sheet
+pub mod Tables
+pub mod Reading
+pub mod Lending
