@@ -102,9 +102,6 @@ module _ (n at : ℕ) (p : List ℕ) where
 -- ---- forbids
 
 module _ (p : List ℕ) (i : ℕ) where
-  abbrev kindsFrom : Bool
-  kindsFrom = kindsFit (numbersIn (drop (6 * i) p))
-
   module _ (h : i < length p / 6) where
     kinds-next : kindsFit (numbersIn (drop (6 * i) p)) ≡ leb (u16At p (6 * i + 4)) 1 && kindsFit (numbersIn (drop (6 * suc i) p))
     unfolding kindsFit

@@ -23,7 +23,7 @@ pub record Lent : Type 0 where
 abbrev pub lent : List ℕ → List ℕ → List ℕ → List ℕ → Lent
 lent weights offsets ids forbids = record { weights = weights; offsets = offsets; ids = ids; forbids = forbids }
 
--- the sheet in the lent slices; what stands past its last id and its last forbid stays
+-- the sheet at the front of the lent slices; what stands past its last entry stays
 unfoldable pub filled : Sheet → Lent → Lent
 unfolding tableOf over
 filled s m =

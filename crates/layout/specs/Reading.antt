@@ -12,6 +12,7 @@ use Rattle.layout.specs.Sheet.{Sheet, sheet}
 
 -- ---- the records of a sheet
 
+-- the bytes from the second, the third and the fourth record on
 abbrev pub fromLists : List ℕ → List ℕ
 fromLists b = restOf b
 
@@ -91,6 +92,7 @@ unfoldable pub gridIn : List ℕ → Grid
 unfolding u16At
 gridIn p = grid (u16At p 0) (u16At p 2) (u16At p 4)
 
+-- weights, lists, grid and forbids
 unfoldable pub sheetIn : List ℕ → Sheet
 unfolding numbersIn listsIn countIn gridIn payloadOf restOf
 sheetIn b =

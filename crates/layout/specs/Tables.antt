@@ -47,7 +47,7 @@ stored (c ∷ []) = []
 stored (c ∷ p ∷ []) = []
 stored (c ∷ p ∷ k ∷ l) = c ∷ p ∷ kindOf k ∷ stored l
 
--- the sheet that is written
+-- the sheet of a table with its weights, a grid and forbids
 unfoldable pub sheetFor : Table → List ℕ → Grid → List ℕ → Sheet
 unfolding listsOf stored
 sheetFor t weights g forbids = sheet weights (listsOf t) g (stored forbids)

@@ -1,6 +1,6 @@
 -- Laws of writing: parts one after the other are the whole, and a whole from the front is what stands over the rest.
 -- Assumes nothing.
-use mathlib.Core.List.{List, [], _∷_, _++_}
+use mathlib.Core.List.{List, [], _∷_, _++_, append-nil}
 use mathlib.Core.Path.{_≡_, refl, sym, ap, _∙_}
 use Prim.Native.Nat.{ℕ, suc, _+_, _≤_, _<_}
 use native.Mathlib.Numerals.{add-one}
@@ -52,6 +52,13 @@ unfolding over
 sets-over new old h =
     let k : 0 + length new ≡ length new = omega arith in
     sets-eq new old 0 (omega arith) ∙ rw k
+
+-- where nothing stands past them, all is new
+pub over-whole : (new old : List ℕ) → length new ≡ length old → over new old ≡ new
+unfolding over
+over-whole new old e =
+    let past : length old ≤ length new = omega arith in
+    ap (λ (l : List ℕ). new ++ l) (drop-of-length-le old past) ∙ append-nil new
 
 pub laid-over : (new old : List ℕ) → length new ≤ length old → laid new (pen old 0) ≡ pen (over new old) (length new)
 unfolding laid

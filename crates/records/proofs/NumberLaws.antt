@@ -28,12 +28,6 @@ numbersIn-next b k h =
     let one : k + 1 ≡ suc k = omega arith in
     rw (two, one, drop-cons b k 0 (omega arith), drop-cons b (suc k) 0 (omega arith))
 
-pub length-numbersIn : (b : List ℕ) → 2 * length (numbersIn b) ≤ length b
-unfolding numbersIn
-length-numbersIn [] = omega arith
-length-numbersIn (x ∷ []) = omega arith
-length-numbersIn (x ∷ y ∷ l) = omega (arith, length-numbersIn l)
-
 -- a loop that writes numbers: a turn, and the end
 module _ (ns out : List ℕ) (place i : ℕ) where
   pub lay-turn : i < length ns → {out′ : List ℕ} {place′ : ℕ} → pen out′ place′ ≡ laid (u16 (getD ns i 0)) (pen out place)

@@ -1,13 +1,14 @@
 -- Through the calls and back: what was written is read, what was read is written, and how long a sheet can be. Follows docs/RULES.md, "Sheet".
 -- Assumes nothing.
-use mathlib.Core.Bool.{Bool, true, false, not}
+use mathlib.Core.Bool.{Bool, true, false, not, _||_}
 use mathlib.Core.List.{List, [], _∷_}
 use mathlib.Core.Path.{_≡_, refl, sym, ap, _∙_}
 use Prim.Native.Nat.{ℕ, zero, suc, _+_, _*_, _/_, _%_, _≤_}
 use native.Mathlib.Nat.{le-refl}
 use native.Mathlib.Omega.{arith}
+use lib.Dec.{ltb, eqb}
 use lib.ListN.{length}
-use borrow.Author.Tests.{le-ltb, lt-leb, eq-eqb, ne-eqb, not-false}
+use borrow.Author.Tests.{le-ltb, lt-leb, eq-eqb, ne-eqb, not-false, eqb-true}
 use Rattle.records.specs.Laying.{over}
 use Rattle.records.specs.Records.{payloadOf}
 use Rattle.refusals.specs.declared.Refusal.the-variants.{BadWeights, BadList, Disagree}
@@ -26,6 +27,8 @@ use Rattle.layout.specs.Lending.{Lent, lent, filled}
 use Rattle.sheet.specs.Called.{scalarTests, contentTests, sheetTests, formTest, measured, readMisfit, readTests, readOutcome, readAt, readCalled, writeMisfit, writeTests, writeOutcome, writeAt, writeCalled}
 use Rattle.sheet.specs.Storable.{Storable}
 use Rattle.records.proofs.RecordLaws.{Bytes}
+use Rattle.records.proofs.LayingLaws.{over-whole}
+use Rattle.loops.proofs.TestLaws.{neither}
 use Rattle.refusals.proofs.RefusalLaws.{Passed, first-passed, passed-first, first-next}
 use Rattle.adjacency.proofs.WeightLaws.{weighed-good}
 use Rattle.adjacency.proofs.AcceptedLaws.{accepted-complete, long-good}
@@ -269,3 +272,19 @@ module _ (t : Table) (weights : List ℕ) (g : Grid) (forbids : List ℕ) (S : S
       (le-ltb room needed (omega (arith, records-stored, fitting-size t weights g forbids (S .fitting)))) in
       passed-first (writeTests t weights g forbids room)
       (count, (size-good g (S .fitting .sized), (wrap-good g (S .fitting .sized), (lengths, (heavy, (list, (agreement, placed-passes t g (forbidsOf forbids) (S .placed))))))))
+
+-- ---- slices of one exact length are written whole
+
+pub filled-whole : (s : Sheet) (l : Lent) → readMisfit (measured s) (length (l .weights)) (length (l .offsets)) (length (l .ids)) (length (l .forbids)) ≡ false
+    → length (tableOf s .offsets) ≡ 4 * length (s .weights) + 1 → (filled s l .weights ≡ s .weights) × (filled s l .offsets ≡ tableOf s .offsets)
+unfolding filled readMisfit measured
+filled-whole s l e starts =
+    let weights = not (eqb (length (l .weights)) (length (s .weights))) in
+    let offsets = not (eqb (length (l .offsets)) (4 * length (s .weights) + 1)) in
+    let ids = ltb (length (l .ids)) (length (joined (s .lists))) in
+    let (rest, forbid) = neither (weights || offsets || ids) (ltb (length (l .forbids)) (3 * (length (s .forbids) / 3))) e in
+    let (both-same, id) = neither (weights || offsets) ids rest in
+    let (weight, offset) = neither weights offsets both-same in
+    let one = eqb-true (length (l .weights)) (length (s .weights)) (not-false _ weight) in
+    let many = eqb-true (length (l .offsets)) (4 * length (s .weights) + 1) (not-false _ offset) in
+    (over-whole (s .weights) (l .weights) (sym one), over-whole (tableOf s .offsets) (l .offsets) (starts ∙ sym many))

@@ -77,6 +77,7 @@ unfoldable pub readMisfit : Measures → ℕ → ℕ → ℕ → ℕ → Bool
 readMisfit m weights offsets ids forbids =
     not (eqb weights (m .count)) || not (eqb offsets (4 * m .count + 1)) || ltb ids (m .ids) || ltb forbids (3 * m .forbids)
 
+-- 10, and then the numbers that the sheet says
 unfoldable pub readTests : List ℕ → Lent → List Test
 unfolding wellFormed sheetIn sheetTests measured readMisfit tableOf
 readTests b m =
@@ -113,6 +114,7 @@ writeMisfit t weights forbids room =
     weightsMisfit (t .count) weights || offsetsMisfit (t .count) (t .offsets) || ltb 4096 (recordsIn forbids)
     || ltb room (32 + 6 * t .count + length (t .ids) + 6 * recordsIn forbids)
 
+-- the numbers that are lent
 unfoldable pub writeTests : Table → List ℕ → Grid → List ℕ → ℕ → List Test
 unfolding sheetTests writeMisfit
 writeTests t weights g forbids room = sheetTests (writeMisfit t weights forbids room) t weights g forbids

@@ -34,7 +34,8 @@ pub(crate) fn measure(sheet: &[u8]) -> Measures
     }
 }
 
-// The number of the first refusal of what a sheet says, 0 for none; it is read into memory of its own, so that lent memory stays as it is.
+// The number of the first refusal of what a sheet says, 0 for none. It is read into memory of its own, so that lent memory stays as it is:
+// 64 weights, 257 offsets, 256 lists of at most 255 ids, and 4,096 forbids.
 pub(crate) fn judge_sheet(sheet: &[u8]) -> u32
     requires { ⌜ (wellFormed (now sheet) ≡ true) × (countIn (now sheet) ≤ 64) ⌝ }
     ensures { λ r. ⌜ r ≡ firstOf (contentTests (tableOf (sheetIn (now (sheet .entry)))) (sheetIn (now (sheet .entry)) .weights) (sheetIn (now (sheet .entry)) .grid)

@@ -1,4 +1,4 @@
--- `layout::reading::fill` meets its contract.
+-- `layout::inner::filling::fill` meets its contract.
 -- Assumes nothing.
 use mathlib.Core.Path.{_≡_, ap}
 use Prim.Native.Nat.{ℕ, _*_}

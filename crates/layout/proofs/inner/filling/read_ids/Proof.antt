@@ -1,4 +1,4 @@
--- `layout::reading::read_ids` meets its contract.
+-- `layout::inner::filling::read_ids` meets its contract.
 -- Assumes nothing.
 use mathlib.Core.Bool.{true}
 use mathlib.Core.List.{List}

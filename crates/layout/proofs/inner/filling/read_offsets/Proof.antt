@@ -1,4 +1,4 @@
--- `layout::reading::read_offsets` meets its contract.
+-- `layout::inner::filling::read_offsets` meets its contract.
 -- Assumes nothing.
 use mathlib.Core.Bool.{true}
 use mathlib.Core.Path.{_≡_, refl, _∙_}

@@ -1,4 +1,4 @@
--- `layout::shape::count_of` meets its contract.
+-- `layout::inner::shape::count_of` meets its contract.
 -- Assumes nothing.
 use mathlib.Core.List.{List}
 use mathlib.Core.Path.{ap, _∙_}

@@ -1,4 +1,4 @@
--- `layout::shape::forbids_fit` meets its contract.
+-- `layout::inner::shape::forbids_fit` meets its contract.
 -- Assumes nothing.
 use mathlib.Core.Path.{refl, sym}
 use borrow.Author.Needs.{needs}

@@ -1,4 +1,4 @@
--- `layout::shape::framed` meets its contract.
+-- `layout::inner::shape::framed` meets its contract.
 -- Assumes nothing.
 use mathlib.Core.Path.{refl, sym, _∙_}
 use borrow.Author.Needs.{needs}

@@ -1,4 +1,4 @@
--- `layout::shape::kinds_fit` meets its contract.
+-- `layout::inner::shape::kinds_fit` meets its contract.
 -- Assumes nothing.
 use mathlib.Core.Path.{_≡_, refl, sym, _∙_}
 use Prim.Native.Nat.{_-_, _*_, _≤_}

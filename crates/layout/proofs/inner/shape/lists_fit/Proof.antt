@@ -1,4 +1,4 @@
--- `layout::shape::lists_fit` meets its contract.
+-- `layout::inner::shape::lists_fit` meets its contract.
 -- Assumes nothing.
 use mathlib.Core.Path.{_≡_, _∙_}
 use Prim.Native.Nat.{suc, _+_, _-_, _≤_}

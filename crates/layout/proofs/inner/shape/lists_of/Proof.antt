@@ -1,4 +1,4 @@
--- `layout::shape::lists_of` meets its contract.
+-- `layout::inner::shape::lists_of` meets its contract.
 -- Assumes nothing.
 use mathlib.Core.Path.{ap, _∙_}
 use borrow.Author.Needs.{needs}

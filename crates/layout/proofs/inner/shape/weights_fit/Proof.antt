@@ -1,4 +1,4 @@
--- `layout::shape::weights_fit` meets its contract.
+-- `layout::inner::shape::weights_fit` meets its contract.
 -- Assumes nothing.
 use borrow.Author.Needs.{needs}
 use Rattle.layout.proofs.ShapeLaws.{weights-short, weights-long}

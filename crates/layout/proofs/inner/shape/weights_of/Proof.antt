@@ -1,4 +1,4 @@
--- `layout::shape::weights_of` meets its contract.
+-- `layout::inner::shape::weights_of` meets its contract.
 -- Assumes nothing.
 use mathlib.Core.Path.{ap, _∙_}
 use Prim.Native.Nat.{_-_}

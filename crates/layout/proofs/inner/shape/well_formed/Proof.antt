@@ -1,4 +1,4 @@
--- `layout::shape::well_formed` meets its contract.
+-- `layout::inner::shape::well_formed` meets its contract.
 -- Assumes nothing.
 use mathlib.Core.Bool.{true}
 use mathlib.Core.List.{List}

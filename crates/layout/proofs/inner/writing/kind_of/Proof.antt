@@ -1,4 +1,4 @@
--- `layout::writing::kind_of` meets its contract.
+-- `layout::inner::writing::kind_of` meets its contract.
 -- Assumes nothing.
 use mathlib.Core.Path.{sym}
 use borrow.Author.Tests.{eq-eqb, ne-eqb}

@@ -1,4 +1,4 @@
--- `layout::writing::lay_each_forbid` meets its contract.
+-- `layout::inner::writing::lay_each_forbid` meets its contract.
 -- Assumes nothing.
 use mathlib.Core.List.{List, [], _∷_}
 use mathlib.Core.Path.{_≡_, refl, sym, ap, _∙_}

@@ -1,4 +1,4 @@
--- `layout::writing::lay_forbids` meets its contract.
+-- `layout::inner::writing::lay_forbids` meets its contract.
 -- Assumes nothing.
 use mathlib.Core.Path.{sym}
 use Prim.Native.Nat.{_*_, _/_}

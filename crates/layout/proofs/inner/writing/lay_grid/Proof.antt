@@ -1,4 +1,4 @@
--- `layout::writing::lay_grid` meets its contract.
+-- `layout::inner::writing::lay_grid` meets its contract.
 -- Assumes nothing.
 use mathlib.Core.Path.{refl}
 use native.Mathlib.Omega.{arith}

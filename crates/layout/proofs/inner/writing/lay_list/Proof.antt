@@ -1,4 +1,4 @@
--- `layout::writing::lay_list` meets its contract.
+-- `layout::inner::writing::lay_list` meets its contract.
 -- Assumes nothing.
 use native.Mathlib.Omega.{arith}
 use borrow.Author.Needs.{needs}

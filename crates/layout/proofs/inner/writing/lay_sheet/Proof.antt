@@ -1,4 +1,4 @@
--- `layout::writing::lay_sheet` meets its contract.
+-- `layout::inner::writing::lay_sheet` meets its contract.
 -- Assumes nothing.
 use mathlib.Core.List.{[], _∷_}
 use native.Mathlib.Omega.{arith}

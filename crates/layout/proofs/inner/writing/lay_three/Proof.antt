@@ -1,4 +1,4 @@
--- `layout::writing::lay_three` meets its contract.
+-- `layout::inner::writing::lay_three` meets its contract.
 -- Assumes nothing.
 use native.Mathlib.Omega.{arith}
 use borrow.Author.Needs.{needs}

@@ -1,4 +1,4 @@
--- `layout::writing::lay_weights` meets its contract.
+-- `layout::inner::writing::lay_weights` meets its contract.
 -- Assumes nothing.
 use mathlib.Core.List.{_++_}
 use mathlib.Core.Path.{_≡_}
