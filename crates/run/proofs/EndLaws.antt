@@ -20,7 +20,7 @@ use Rattle.consistency.specs.Consistent.{Greatest}
 use Rattle.run.specs.declared.Forbid.{Forbid}
 use Rattle.choice.specs.Observer.{countsAt}
 use Rattle.run.specs.Run.{Given, notesOf, sighted, Ended, decided}
-use Rattle.run.specs.Course.{Lawful, fullLess, Final}
+use Rattle.run.specs.Course.{Lawful, fullLess, removals, Final}
 use Rattle.loops.proofs.TestLaws.{T-true, true-T, every-at, every-fails}
 use Rattle.words.proofs.CountLaws.{many-width, many-zero}
 use Rattle.consistency.proofs.DomainLaws.{at-emptied, settled-empty, settled-whole, fit-settled}
@@ -54,7 +54,7 @@ several P D c F e h k =
 
 module _ (i : Given) (fs : List Forbid) (L : Lawful i fs) (words : List ℕ) {e : Ended} (F : Final i fs words e) where
   -- the last state is what propagation leaves of full domains less all that was asked to go
-  pub last-stands : Stands i (F .state)
+  pub last-stands : Stands i (removals i fs words (F .reached)) (F .state)
   last-stands = reached-stands i fs L (F .reached)
 
   ending : Over i words (e .used) (F .state) e
@@ -108,9 +108,9 @@ module _ (i : Given) (fs : List Forbid) (L : Lawful i fs) (words : List ℕ) {e 
     end-domains = sym (end-written ∙ settled-whole (F .state .domains) (sym told ∙ end-whole))
 
     -- they are the greatest consistent subset of full domains less all that was asked to go
-    pub end-greatest : Greatest (i .table) (i .grid) (fullLess i (last-stands .asks)) (e .domains)
+    pub end-greatest : Greatest (i .table) (i .grid) (fullLess i (removals i fs words (F .reached))) (e .domains)
     end-greatest =
-        subst (λ (D : List ℕ). Greatest (i .table) (i .grid) (fullLess i (last-stands .asks)) D) end-domains
+        subst (λ (D : List ℕ). Greatest (i .table) (i .grid) (fullLess i (removals i fs words (F .reached))) D) end-domains
         (settled-greatest (i .table) (i .grid) _ (F .state) (last-stands .settled) end-whole)
 
   -- ---- Decided
