@@ -5,7 +5,7 @@ use mathlib.Core.List.{List, [], _∷_, _++_}
 use Prim.Native.Char.{code}
 use Prim.Native.Nat.{ℕ, zero, suc, _+_}
 use Prim.Native.String.{String, [], _∷_}
-use lib.Dec.{ltb}
+use lib.Dec.{ltb, eqb}
 use lib.ListN.{length, set}
 use Rattle.loops.specs.Loops.{each}
 
@@ -35,3 +35,9 @@ put text p = each putByte text p
 unfoldable pub texts : (ℕ → List ℕ) → ℕ → ℕ → List ℕ
 texts f i zero = []
 texts f i (suc count) = f i ++ texts f (suc i) count
+
+-- line number k of a text, without its end
+unfoldable pub line : ℕ → List ℕ → List ℕ
+line k [] = []
+line zero (b ∷ t) = cond (eqb b 10) [] (b ∷ line zero t)
+line (suc k) (b ∷ t) = cond (eqb b 10) (line k t) (line (suc k) t)

@@ -5,7 +5,7 @@ ghost use mathlib.Core.Path.{_≡_};
 ghost use mathlib.Core.List.{_∷_, []};
 ghost use Prim.Native.Nat.{_+_, _-_, _<_};
 ghost use lib.ListN.{length, replicate};
-ghost use Rattle.text.specs.Pages.{page, put};
+ghost use Rattle.text.specs.Pages.{page, put, line};
 ghost use Rattle.text.specs.Numbers.{digits, decimal, padded};
 
 // One byte.
@@ -28,6 +28,28 @@ pub fn put_text(text: &[u8], at: usize, out: &mut [u8]) -> usize
     while i < text.len() {
         next = put_byte(text[i], next, out);
         i += 1;
+    }
+    next
+}
+
+// Line number k of a table of texts, one to a line.
+pub fn put_line(table: &[u8], k: usize, at: usize, out: &mut [u8]) -> usize
+    ensures { λ r. ⌜ page (now (out .exit)) r ≡ put (line k (now (table .entry))) (page (now (out .entry)) at) ⌝ }
+{
+    let mut next = at;
+    let mut left = k;
+    let mut i = 0;
+    while i < table.len() {
+        let byte = table[i];
+        i += 1;
+        if byte == 10 {
+            if left == 0 {
+                return next;
+            }
+            left -= 1;
+        } else if left == 0 {
+            next = put_byte(byte, next, out);
+        }
     }
     next
 }
