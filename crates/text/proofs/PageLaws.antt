@@ -61,6 +61,11 @@ module _ (b : ℕ) {R : Page} where
   pub repeated-end : (left : ℕ) (p : Page) → left ≡ 0 → put (replicate left b) p ≡ R → p ≡ R
   repeated-end left p h inv = sym (put-none p) ∙ (rw h at inv)
 
+pub texts-start : (f : ℕ → List ℕ) (end : ℕ) (p : Page) → put (texts f 0 (end - 0)) p ≡ put (texts f 0 end) p
+texts-start f end p =
+    let n : end - 0 ≡ end = omega arith in
+    ap (λ (k : ℕ). put (texts f 0 k) p) n
+
 module _ (f : ℕ → List ℕ) (end : ℕ) {R : Page} where
   -- a turn at i, which put its text
   pub texts-turn : (i : ℕ) (p q : Page) → i < end → q ≡ put (f i) p → put (texts f i (end - i)) p ≡ R → put (texts f (i + 1) (end - (i + 1))) q ≡ R
