@@ -3,10 +3,10 @@
 use mathlib.Core.Bool.{Bool, true, false}
 use mathlib.Core.List.{List, [], _∷_, _++_}
 use mathlib.Core.Path.{_≡_, refl, sym, ap, _∙_}
-use Prim.Native.Nat.{ℕ, suc, _+_, _*_, _/_, _%_, _≤_, _<_, mul·suc}
+use Prim.Native.Nat.{ℕ, suc, _+_, _-_, _*_, _/_, _%_, _≤_, _<_, mul·suc}
 use native.Mathlib.Nat.{mul-le-mul-right, div-mul-le-self}
 use native.Mathlib.Omega.{arith}
-use lib.ListN.{replicate}
+use lib.ListN.{take, drop, replicate}
 use borrow.Author.Tests.{eq-eqb, ne-eqb}
 use Rattle.words.specs.Words.{alone, howMany, least}
 use Rattle.text.specs.Pages.{Page, put, ascii, texts}
@@ -15,7 +15,7 @@ use Rattle.practice.specs.Names.{nameOf}
 use Rattle.text.proofs.PageLaws.{put-none, puts}
 use Rattle.chart.specs.Signs.{glyph, joinsX, joinsY, border}
 use Rattle.chart.specs.Tallies.{tally, alike, undecided}
-use Rattle.chart.specs.Chart.{cellText, cellsText, rowText, rowsText, borderText, columnText, columnsText, labelText, entryText, someText, openText, emptyText, legendText, gridText}
+use Rattle.chart.specs.Chart.{cellText, cellsText, rowText, rowOf, rowsText, borderText, columnText, columnsText, labelText, entryText, someText, openText, emptyText, legendText, gridText}
 
 -- ---- a cell
 
@@ -114,3 +114,9 @@ row-inside y width cells h =
     let whole : cells / width * width ≤ cells = div-mul-le-self cells width in
     let more : suc y * width ≡ width + y * width = mul·suc y width in
     omega (arith, fits, whole, more)
+
+-- the part of the domains from the row's start to its end is the row
+pub row-taken : (y width : ℕ) (joined : Bool) (l : List ℕ) (p q : Page) → q ≡ put (rowText y joined (take (y * width + width - y * width) (drop (y * width) l))) p → q ≡ put (rowText y joined (rowOf width l y)) p
+row-taken y width joined l p q e =
+    let n : y * width + width - y * width ≡ width = omega arith in
+    e ∙ ap (λ (k : ℕ). put (rowText y joined (take k (drop (y * width) l))) p) n

@@ -5,5 +5,3 @@ mod signs;
 mod table;
 
 pub use table::put_chart;
-
-

@@ -162,7 +162,12 @@ fn put_grid(width: usize, mode: usize, domains: &[u64], at: usize, out: &mut [u8
 fn put_seam(mode: usize, at: usize, out: &mut [u8]) -> usize
     ensures { λ r. ⌜ page (now (out .exit)) r ≡ put (seamText mode) (page (now (out .entry)) at) ⌝ }
 {
-    let next = put_line(b"No side is joined to another: - and | are edges.\nEast meets west: what leaves at a : comes in at the other one. - is an edge.\nNorth meets south: what leaves at a : comes in at the other one. | is an edge.\nEast meets west and north meets south: what leaves at a : comes in at the other one.", mode, at, out);
+    let next = put_line(
+        b"No side is joined to another: - and | are edges.\nEast meets west: what leaves at a : comes in at the other one. - is an edge.\nNorth meets south: what leaves at a : comes in at the other one. | is an edge.\nEast meets west and north meets south: what leaves at a : comes in at the other one.",
+        mode,
+        at,
+        out,
+    );
     put_byte(b'\n', next, out)
 }
 
@@ -170,7 +175,12 @@ fn put_seam(mode: usize, at: usize, out: &mut [u8]) -> usize
 fn put_end(end: usize, words: usize, at: usize, out: &mut [u8]) -> usize
     ensures { λ r. ⌜ page (now (out .exit)) r ≡ put (endText end words) (page (now (out .entry)) at) ⌝ }
 {
-    let a = put_line(b"Decided: every cell has one pattern.\nUndecided: nothing is left to choose, and some cell has more than one pattern.\nPaused: the words were used up before every cell was decided.\nContradiction: no pattern is left, every cell is empty.", end, at, out);
+    let a = put_line(
+        b"Decided: every cell has one pattern.\nUndecided: nothing is left to choose, and some cell has more than one pattern.\nPaused: the words were used up before every cell was decided.\nContradiction: no pattern is left, every cell is empty.",
+        end,
+        at,
+        out,
+    );
     let b = put_text(b" Words used: ", a, out);
     let c = put_decimal(words, b, out);
     put_text(b".\n", c, out)
@@ -214,11 +224,11 @@ fn count_undecided(domains: &[u64]) -> usize
 fn put_label(named: bool, p: usize, at: usize, out: &mut [u8]) -> usize
     ensures { λ r. ⌜ page (now (out .exit)) r ≡ put (labelText named p) (page (now (out .entry)) at) ⌝ }
 {
-    if !named {
-        return at;
+    if named {
+        let next = put_text(b": ", at, out);
+        return practice::put_name(p, next, out);
     }
-    let next = put_text(b": ", at, out);
-    practice::put_name(p, next, out)
+    at
 }
 
 // A pattern: its sign, in how many cells it stands, its number and its name.

@@ -36,7 +36,7 @@ loop-less : tie.Need-loop-less Inv-loop μ-loop
 loop-less c = omega arith
 
 loop-again : tie.Need-loop-again Inv-loop μ-loop
-loop-again c = 
+loop-again c =
     let turn = c .before .before in
     (omega arith, omega arith, tally-more _ _ _ _ (turn .loop-test .taken) (eq-eqb _ _ (c .if1 .taken)) (turn .before .loop .inv .2))
 
@@ -44,7 +44,7 @@ loop-less-2 : tie.Need-loop-less-2 Inv-loop μ-loop
 loop-less-2 c = omega arith
 
 loop-again-2 : tie.Need-loop-again-2 Inv-loop μ-loop
-loop-again-2 c = 
+loop-again-2 c =
     let turn = c .before .before in
     (omega arith, omega arith, tally-same _ _ _ _ (turn .loop-test .taken) (ne-eqb _ _ (c .if1 .left)) (turn .before .loop .inv .2))
 

@@ -37,10 +37,12 @@ loop-less : tie.Need-loop-less Inv-loop μ-loop
 loop-less c = omega arith
 
 loop-again : tie.Need-loop-again Inv-loop μ-loop
-loop-again c = 
-    let turn = c .before .before .before .before .before in
-    (omega arith, c .before .before .put-cell .kept .1 .1 .0 ∙ turn .before .loop .inv .1,
-    texts-turn _ _ _ _ _ (turn .loop-test .taken) (c .before .before .put-cell .ensures) (turn .before .loop .inv .2))
+loop-again c =
+    let turn = c .before .before .before .before .before in (
+      omega arith,
+      c .before .before .put-cell .kept .1 .1 .0 ∙ turn .before .loop .inv .1,
+      texts-turn _ _ _ _ _ (turn .loop-test .taken) (c .before .before .put-cell .ensures) (turn .before .loop .inv .2),
+    )
 
 same-length : tie.Need-same-length Inv-loop μ-loop
 same-length c = c .before .loop .inv .1

@@ -1,36 +1,29 @@
+-- `chart::table::put_chart` meets its contract: its parts in a row.
+-- Assumes nothing.
 use borrow.Author.Needs.{needs}
+use Rattle.chart.specs.Chart.{chartText}
+use Rattle.text.proofs.PageLaws.{puts}
 use Rattle.chart.proofs.table.put_chart.Statement.{statement}
 use Rattle.chart.proofs.table.put_chart.Tie as tie
-use Rattle.chart.proofs.table.put_chart.Reads as reads
-use Rattle.chart.proofs.table.put_chart.Lts as lts
-use Rattle.chart.proofs.table.put_end.Reads as put-end-reads
-use Rattle.chart.proofs.table.put_grid.Reads as put-grid-reads
-use Rattle.chart.proofs.table.put_legend.Reads as put-legend-reads
-use Rattle.chart.proofs.table.put_seam.Reads as put-seam-reads
 
--- src/table.rt:312:9
 put-grid-requires : tie.Need-put-grid-requires
 put-grid-requires c κs = search needs
 
--- src/table.rt:313:9
 put-seam-requires : tie.Need-put-seam-requires
 put-seam-requires c κs = search needs
 
--- src/table.rt:314:9
 put-end-requires : tie.Need-put-end-requires
 put-end-requires c κs = search needs
 
--- src/table.rt:315:5
 put-legend-requires : tie.Need-put-legend-requires
 put-legend-requires c κs = search needs
 
--- src/table.rt:299:1
 same-length : tie.Need-same-length
 same-length c = search needs
 
--- src/table.rt:299:1
 returns : tie.Need-returns
-returns c = ?
+unfolding chartText
+returns c = puts _ _ _ _ _ (puts _ _ _ _ _ (puts _ _ _ _ _ (c .before .before .before .before .before .before .before .before .before .before .before .before .before .before .put-grid .ensures) (c .before .before .before .before .before .before .before .before .before .before .put-seam .ensures)) (c .before .before .before .before .before .before .put-end .ensures)) (c .before .before .put-legend .ensures)
 
 pub put-chart-spec : {M : Type 1} → statement M
 put-chart-spec =

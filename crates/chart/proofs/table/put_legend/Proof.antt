@@ -1,41 +1,31 @@
+-- `chart::table::put_legend` meets its contract: its parts in a row.
+-- Assumes nothing.
 use borrow.Author.Needs.{needs}
+use Rattle.chart.proofs.ChartLaws.{legend-put}
 use Rattle.chart.proofs.table.put_legend.Statement.{statement}
 use Rattle.chart.proofs.table.put_legend.Tie as tie
-use Rattle.chart.proofs.table.put_legend.Reads as reads
-use Rattle.chart.proofs.table.put_legend.Lts as lts
-use Rattle.chart.proofs.table.count_alike.Reads as count-alike-reads
-use Rattle.chart.proofs.table.count_undecided.Reads as count-undecided-reads
-use Rattle.chart.proofs.table.put_empty.Reads as put-empty-reads
-use Rattle.chart.proofs.table.put_open.Reads as put-open-reads
-use Rattle.chart.proofs.table.put_patterns.Reads as put-patterns-reads
 
--- src/table.rt:291:9
 count-undecided-requires : tie.Need-count-undecided-requires
 count-undecided-requires c κs = search needs
 
--- src/table.rt:292:9
 count-alike-requires : tie.Need-count-alike-requires
 count-alike-requires c κs = search needs
 
--- src/table.rt:293:9
 put-patterns-requires : tie.Need-put-patterns-requires
 put-patterns-requires c κs = search needs
 
--- src/table.rt:294:9
 put-open-requires : tie.Need-put-open-requires
 put-open-requires c κs = search needs
 
--- src/table.rt:295:5
 put-empty-requires : tie.Need-put-empty-requires
 put-empty-requires c κs = search needs
 
--- src/table.rt:288:1
 same-length : tie.Need-same-length
 same-length c = search needs
 
--- src/table.rt:288:1
 returns : tie.Need-returns
-returns c = ?
+returns c = legend-put _ _ _ _ _ _ _ _ (c .before .before .before .before .before .before .before .before .before .before .before .before .before .count-undecided .ensures) (c .before .before .before .before .before .before .before .before .before .before .before .before .count-alike .ensures)
+    (c .before .before .before .before .before .before .before .before .before .before .put-patterns .ensures) (c .before .before .before .before .before .before .put-open .ensures) (c .before .before .put-empty .ensures)
 
 pub put-legend-spec : {M : Type 1} → statement M
 put-legend-spec =

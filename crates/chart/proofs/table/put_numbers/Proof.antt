@@ -1,42 +1,47 @@
+-- `chart::table::put_numbers` meets its contract. The invariant: the numbers that are left, put on the page now, are all of them, put on the page at entry.
+-- Assumes nothing.
+use native.Mathlib.Omega.{arith}
+use mathlib.Core.Path.{_≡_, refl, sym, ap, _∙_}
+use Prim.Native.Nat.{_-_, _≤_}
+use lib.ListN.{length}
+use Rattle.text.specs.Pages.{page, put, texts}
+use Rattle.text.proofs.PageLaws.{texts-start, texts-turn, texts-end}
+use Rattle.chart.specs.Chart.{columnText}
 use Rattle.chart.proofs.table.put_numbers.Statement.{statement}
 use Rattle.chart.proofs.table.put_numbers.Tie as tie
-use Rattle.chart.proofs.table.put_numbers.Reads as reads
-use Rattle.chart.proofs.table.put_numbers.Lts as lts
-use Rattle.chart.proofs.table.put_column.Reads as put-column-reads
 
 abbrev Inv-loop : tie.InvT-loop
-Inv-loop width at out₀ next₀ x₀ out next x = ?
+Inv-loop width at out₀ next₀ x₀ out next x =
+    (x ≤ width) × (length out ≡ length out₀) × (put (texts columnText x (width - x)) (page out next) ≡ put (texts columnText 0 width) (page out₀ at))
 
 abbrev μ-loop : tie.MeasureT-loop
-μ-loop width at out₀ next₀ x₀ out next x = ?
+μ-loop width at out₀ next₀ x₀ out next x = width - x
 
--- src/table.rt:132:5
 loop-holds : tie.Need-loop-holds Inv-loop μ-loop
-loop-holds c = ?
+loop-holds c = (omega arith, refl, texts-start columnText (c .before .args .width) _)
 
--- src/table.rt:133:9
 put-column-requires : tie.Need-put-column-requires Inv-loop μ-loop
-put-column-requires c κs = ?
+put-column-requires c κs = tt
 
--- src/table.rt:134:9
 add-x : tie.Need-add-x Inv-loop μ-loop
-add-x c = ?
+add-x c = omega arith
 
--- src/table.rt:132:5
 loop-less : tie.Need-loop-less Inv-loop μ-loop
-loop-less c = ?
+loop-less c = omega arith
 
--- src/table.rt:132:5
 loop-again : tie.Need-loop-again Inv-loop μ-loop
-loop-again c = ?
+loop-again c =
+    let turn = c .before .before .before .before in (
+      omega arith,
+      c .before .before .put-column .kept .1 .1 .0 ∙ turn .before .loop .inv .1,
+      texts-turn _ _ _ _ _ (turn .loop-test .taken) (c .before .before .put-column .ensures) (turn .before .loop .inv .2),
+    )
 
--- src/table.rt:127:1
 same-length : tie.Need-same-length Inv-loop μ-loop
-same-length c = ?
+same-length c = c .before .loop .inv .1
 
--- src/table.rt:127:1
 returns : tie.Need-returns Inv-loop μ-loop
-returns c = ?
+returns c = texts-end _ _ _ _ (c .loop-test .left) (c .before .loop .inv .2)
 
 pub put-numbers-spec : {M : Type 1} → statement M
 put-numbers-spec =

@@ -1,8 +1,7 @@
 -- `chart::table::put_row` meets its contract: its parts in a row.
 -- Assumes nothing.
 use borrow.Author.Needs.{needs}
-use Rattle.chart.specs.Chart.{rowText}
-use Rattle.text.proofs.PageLaws.{puts}
+use Rattle.chart.proofs.ChartLaws.{row-put}
 use Rattle.chart.proofs.table.put_row.Statement.{statement}
 use Rattle.chart.proofs.table.put_row.Tie as tie
 
@@ -34,8 +33,8 @@ same-length : tie.Need-same-length
 same-length c = search needs
 
 returns : tie.Need-returns
-unfolding rowText
-returns c = rw (← c .before .before .before .before .before .before .before .before .before .before .before .before .before .before .before .before .before .before .before .before .before .before .before .before .before .before .before .before .border .ensures) (puts _ _ _ _ _ (c .before .before .before .before .before .before .before .before .before .before .before .before .before .before .before .before .before .before .before .before .before .before .before .before .before .before .put-padded .ensures) (puts _ _ _ _ _ (c .before .before .before .before .before .before .before .before .before .before .before .before .before .before .before .before .before .before .before .before .before .before .put-byte .ensures) (puts _ _ _ _ _ (c .before .before .before .before .before .before .before .before .before .before .before .before .before .before .before .before .before .before .put-byte2 .ensures) (puts _ _ _ _ _ (c .before .before .before .before .before .before .before .before .before .before .before .before .before .before .put-cells .ensures) (puts _ _ _ _ _ (c .before .before .before .before .before .before .before .before .before .before .put-byte3 .ensures) (puts _ _ _ _ _ (c .before .before .before .before .before .before .put-byte4 .ensures) (c .before .before .put-byte5 .ensures)))))))
+returns c = row-put _ _ _ _ _ _ _ _ _ _ _ _ (c .before .before .before .before .before .before .before .before .before .before .before .before .before .before .before .before .before .before .before .before .before .before .before .before .before .before .before .before .border .ensures)
+    (c .before .before .before .before .before .before .before .before .before .before .before .before .before .before .before .before .before .before .before .before .before .before .before .before .before .before .put-padded .ensures) (c .before .before .before .before .before .before .before .before .before .before .before .before .before .before .before .before .before .before .before .before .before .before .put-byte .ensures) (c .before .before .before .before .before .before .before .before .before .before .before .before .before .before .before .before .before .before .put-byte2 .ensures) (c .before .before .before .before .before .before .before .before .before .before .before .before .before .before .put-cells .ensures) (c .before .before .before .before .before .before .before .before .before .before .put-byte3 .ensures) (c .before .before .before .before .before .before .put-byte4 .ensures) (c .before .before .put-byte5 .ensures)
 
 pub put-row-spec : {M : Type 1} → statement M
 put-row-spec =
