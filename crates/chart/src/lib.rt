@@ -4,4 +4,7 @@ mod picture;
 mod signs;
 mod table;
 
+pub use picture::put_picture_head;
+pub use picture::put_picture_row;
+pub use picture::put_picture_tail;
 pub use table::put_chart;

@@ -63,7 +63,7 @@ fn put_row(y: usize, joined: bool, row: &[u64], at: usize, out: &mut [u8]) -> us
 }
 
 // How many whole rows there are.
-fn row_count(width: usize, cells: usize) -> usize
+pub(crate) fn row_count(width: usize, cells: usize) -> usize
     ensures { λ r. ⌜ r ≡ cells / width ⌝ }
 {
     if width == 0 { 0 } else { cells / width }
@@ -172,7 +172,7 @@ fn put_seam(mode: usize, at: usize, out: &mut [u8]) -> usize
 }
 
 // How the run ended, and the words that it used.
-fn put_end(end: usize, words: usize, at: usize, out: &mut [u8]) -> usize
+pub(crate) fn put_end(end: usize, words: usize, at: usize, out: &mut [u8]) -> usize
     ensures { λ r. ⌜ page (now (out .exit)) r ≡ put (endText end words) (page (now (out .entry)) at) ⌝ }
 {
     let a = put_line(
@@ -189,7 +189,7 @@ fn put_end(end: usize, words: usize, at: usize, out: &mut [u8]) -> usize
 // ---- the legend
 
 // How many cells have exactly the patterns of a word.
-fn count_alike(domains: &[u64], word: u64) -> usize
+pub(crate) fn count_alike(domains: &[u64], word: u64) -> usize
     ensures { λ r. ⌜ r ≡ tally (alike word) (now (domains .entry)) ⌝ }
 {
     let mut cells = 0;
@@ -221,7 +221,7 @@ fn count_undecided(domains: &[u64]) -> usize
 }
 
 // A pattern's name in the practice ocean, where that is laid.
-fn put_label(named: bool, p: usize, at: usize, out: &mut [u8]) -> usize
+pub(crate) fn put_label(named: bool, p: usize, at: usize, out: &mut [u8]) -> usize
     ensures { λ r. ⌜ page (now (out .exit)) r ≡ put (labelText named p) (page (now (out .entry)) at) ⌝ }
 {
     if named {
