@@ -12,3 +12,11 @@ sentences = ascii "Accepted: nothing is refused.\nBadSize: a side of the grid is
 -- why a sheet was refused, by the refusal's number
 unfoldable pub refusalText : ℕ → List ℕ
 refusalText number = ascii "refused: " ++ decimal number ++ (32 ∷ []) ++ line number sentences ++ (10 ∷ [])
+
+-- what is wrong with the arguments, one to a line, from 0 for nothing
+unfoldable pub faults : List ℕ
+faults = ascii "\n--seed wants a number from 0 to 4294967295 after it\n--svg wants the name of a file after it\nan option that is not --seed or --svg\nmore files than SHEET NOISE WORDS RESULT\na sheet wants its noise and its words, as in: ocean SHEET NOISE WORDS, or a seed, as in: ocean --seed 7 SHEET\nwith --seed there is no noise and no words: ocean --seed N SHEET RESULT"
+
+-- what is wrong with the arguments, by the fault's number, and what they may be
+unfoldable pub faultText : ℕ → List ℕ
+faultText fault = ascii "ocean: " ++ line fault faults ++ ascii ".\nUsage: ocean [--svg FILE] [--seed N] [SHEET [NOISE WORDS] [RESULT]]\n"

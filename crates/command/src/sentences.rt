@@ -1,7 +1,7 @@
 // The sentences that a person is told. Each call puts the text of one definition.
 ghost use mathlib.Core.Path.{_≡_};
 ghost use Rattle.text.specs.Pages.{page, put};
-ghost use Rattle.command.specs.Sentences.{refusalText};
+ghost use Rattle.command.specs.Sentences.{refusalText, faultText};
 use text::put_byte;
 use text::put_decimal;
 use text::put_line;
@@ -21,4 +21,22 @@ pub fn put_refusal(number: usize, at: usize, out: &mut [u8]) -> usize
         out,
     );
     put_byte(b'\n', d, out)
+}
+
+// What is wrong with the arguments, by the fault's number.
+pub fn put_fault(fault: usize, at: usize, out: &mut [u8]) -> usize
+    ensures { λ r. ⌜ page (now (out .exit)) r ≡ put (faultText fault) (page (now (out .entry)) at) ⌝ }
+{
+    let a = put_text(b"ocean: ", at, out);
+    let b = put_line(
+        b"\n--seed wants a number from 0 to 4294967295 after it\n--svg wants the name of a file after it\nan option that is not --seed or --svg\nmore files than SHEET NOISE WORDS RESULT\na sheet wants its noise and its words, as in: ocean SHEET NOISE WORDS, or a seed, as in: ocean --seed 7 SHEET\nwith --seed there is no noise and no words: ocean --seed N SHEET RESULT",
+        fault,
+        a,
+        out,
+    );
+    put_text(
+        b".\nUsage: ocean [--svg FILE] [--seed N] [SHEET [NOISE WORDS] [RESULT]]\n",
+        b,
+        out,
+    )
 }
