@@ -1,54 +1,50 @@
+-- `seed::read` meets its contract. The invariant: the entries passed are the words of the file.
+-- Assumes nothing.
+use native.Mathlib.Omega.{arith}
+use mathlib.Core.Path.{_≡_, refl}
+use Prim.Native.Nat.{_-_, _≤_}
+use lib.ListN.{length, take, length-set}
+use Rattle.seed.specs.Strips.{wordsIn}
+use Rattle.seed.proofs.StripLaws.{read-none, read-more, read-all}
 use Rattle.seed.proofs.read.Statement.{statement}
 use Rattle.seed.proofs.read.Tie as tie
-use Rattle.seed.proofs.read.Reads as reads
-use Rattle.seed.proofs.read.Lts as lts
-use Rattle.seed.proofs.word_at.Reads as word-at-reads
 
 abbrev Inv-loop : tie.InvT-loop
-Inv-loop bytes out₀ i₀ out i = ?
+Inv-loop bytes out₀ i₀ out i =
+    (i ≤ length out₀) × (length out ≡ length out₀) × (take i out ≡ wordsIn bytes i)
 
 abbrev μ-loop : tie.MeasureT-loop
-μ-loop bytes out₀ i₀ out i = ?
+μ-loop bytes out₀ i₀ out i = length out₀ - i
 
--- src/lib.rt:82:5
 loop-holds : tie.Need-loop-holds Inv-loop μ-loop
-loop-holds c = ?
+loop-holds c = (omega arith, refl, read-none _ (c .before .before .args .out .now))
 
--- src/lib.rt:83:33
 mul-word-at : tie.Need-mul-word-at Inv-loop μ-loop
-mul-word-at c = ?
+mul-word-at c = omega arith
 
--- src/lib.rt:83:18
 word-at-requires : tie.Need-word-at-requires Inv-loop μ-loop
-word-at-requires c κs = ?
+word-at-requires c κs = omega arith
 
--- src/lib.rt:83:9
 mul-out : tie.Need-mul-out Inv-loop μ-loop
-mul-out c = ?
+mul-out c = omega arith
 
--- src/lib.rt:83:9
 slice-write-out : tie.Need-slice-write-out Inv-loop μ-loop
-slice-write-out c = ?
+slice-write-out c = omega arith
 
--- src/lib.rt:84:9
 add-i : tie.Need-add-i Inv-loop μ-loop
-add-i c = ?
+add-i c = omega arith
 
--- src/lib.rt:82:5
 loop-less : tie.Need-loop-less Inv-loop μ-loop
-loop-less c = ?
+loop-less c = omega arith
 
--- src/lib.rt:82:5
 loop-again : tie.Need-loop-again Inv-loop μ-loop
-loop-again c = ?
+loop-again c = (omega arith, simp length-set (c .before .before .loop .inv .1), read-more _ _ _ _ (c .before .loop-test .taken) (c .word-at .ensures) (c .before .before .loop .inv .2))
 
--- src/lib.rt:78:1
 same-length : tie.Need-same-length Inv-loop μ-loop
-same-length c = ?
+same-length c = c .before .loop .inv .1
 
--- src/lib.rt:78:1
 returns : tie.Need-returns Inv-loop μ-loop
-returns c = ?
+returns c = read-all _ _ _ _ (c .before .loop .inv .1) (c .before .loop .inv .0) (omega arith) (c .before .loop .inv .2)
 
 pub read-spec : {M : Type 1} → statement M
 read-spec =
