@@ -7,24 +7,29 @@ use lib.Dec.{eqb}
 use lib.ListN.{length, getD, take, drop, replicate}
 use Rattle.words.specs.Words.{alone, howMany, least}
 use Rattle.text.specs.Pages.{ascii, texts, line}
-use Rattle.text.specs.Numbers.{decimal, padded}
+use Rattle.text.specs.Numbers.{decimal, aligned, padded}
 use Rattle.practice.specs.Names.{nameOf}
 use Rattle.chart.specs.Signs.{glyph, joinsX, joinsY, border}
-use Rattle.chart.specs.Tallies.{tally, alike, undecided}
+use Rattle.chart.specs.Tallies.{tally, alike, holding}
 
 -- ---- the grid
 
--- a cell, two columns wide: the sign of its pattern, or how many patterns remain, or `??` where none does
-unfoldable pub cellText : ℕ → List ℕ
-cellText w = cond (eqb w 0) (ascii "??") (cond (eqb (howMany 64 w) 1) (32 ∷ glyph (least 64 w) ∷ []) (padded 2 (howMany 64 w)))
+-- how many signs wide a cell is: 2, or 3 where two numbers of two digits could meet
+unfoldable pub wideness : List ℕ → ℕ
+wideness domains = cond (eqb (tally (holding 10) domains) 0) 2 3
+
+-- a cell, so many signs wide: the sign of its pattern, or how many patterns remain, or `??` where none does
+unfoldable pub cellText : ℕ → ℕ → List ℕ
+cellText wide w =
+    cond (eqb w 0) (aligned wide (ascii "??")) (cond (eqb (howMany 64 w) 1) (aligned wide (glyph (least 64 w) ∷ [])) (padded wide (howMany 64 w)))
 
 -- the cells of a row
-unfoldable pub cellsText : List ℕ → List ℕ
-cellsText row = texts (λ x. cellText (getD row x 0)) 0 (length row)
+unfoldable pub cellsText : ℕ → List ℕ → List ℕ
+cellsText wide row = texts (λ x. cellText wide (getD row x 0)) 0 (length row)
 
 -- a row: its number, then its cells between the west and the east border
-unfoldable pub rowText : ℕ → Bool → List ℕ → List ℕ
-rowText y joined row = padded 2 y ++ (32 ∷ []) ++ (border joined 124 ∷ []) ++ cellsText row ++ (32 ∷ []) ++ (border joined 124 ∷ []) ++ (10 ∷ [])
+unfoldable pub rowText : ℕ → ℕ → Bool → List ℕ → List ℕ
+rowText wide y joined row = padded 2 y ++ (32 ∷ []) ++ (border joined 124 ∷ []) ++ cellsText wide row ++ (32 ∷ []) ++ (border joined 124 ∷ []) ++ (10 ∷ [])
 
 -- how many whole rows there are
 abbrev pub rowCount : ℕ → List ℕ → ℕ
@@ -34,20 +39,19 @@ rowCount width domains = length domains / width
 abbrev pub rowOf : ℕ → List ℕ → ℕ → List ℕ
 rowOf width domains y = take width (drop (y * width) domains)
 
-unfoldable pub rowsText : ℕ → Bool → List ℕ → List ℕ
-rowsText width joined domains = texts (λ y. rowText y joined (rowOf width domains y)) 0 (rowCount width domains)
+unfoldable pub rowsText : ℕ → ℕ → Bool → List ℕ → List ℕ
+rowsText wide width joined domains = texts (λ y. rowText wide y joined (rowOf width domains y)) 0 (rowCount width domains)
 
--- the north or the south border: two signs for each cell, and one more
-unfoldable pub borderText : ℕ → Bool → List ℕ
-borderText width joined =
-    ascii "   +" ++ replicate width (border joined 45) ++ replicate width (border joined 45) ++ (border joined 45 ∷ []) ++ ascii "+\n"
+-- the north or the south border: over each cell so many signs, and one more
+unfoldable pub borderText : ℕ → ℕ → Bool → List ℕ
+borderText wide width joined = ascii "   +" ++ texts (λ x. replicate wide (border joined 45)) 0 width ++ (border joined 45 ∷ []) ++ ascii "+\n"
 
 -- a column's number over every fourth column
-unfoldable pub columnText : ℕ → List ℕ
-columnText x = cond (eqb (x % 4) 0) (padded 2 x) (ascii "  ")
+unfoldable pub columnText : ℕ → ℕ → List ℕ
+columnText wide x = cond (eqb (x % 4) 0) (padded wide x) (replicate wide 32)
 
-unfoldable pub columnsText : ℕ → List ℕ
-columnsText width = ascii "    " ++ texts columnText 0 width ++ (10 ∷ [])
+unfoldable pub columnsText : ℕ → ℕ → List ℕ
+columnsText wide width = ascii "    " ++ texts (columnText wide) 0 width ++ (10 ∷ [])
 
 -- ---- in words
 
@@ -82,12 +86,14 @@ unfoldable pub emptyText : ℕ → List ℕ
 emptyText cells = cond (eqb cells 0) [] (ascii " ??" ++ padded 6 cells ++ ascii "  empty: no pattern remains\n")
 
 unfoldable pub legendText : Bool → List ℕ → List ℕ
-legendText named domains = texts (someText named domains) 0 64 ++ openText (tally undecided domains) ++ emptyText (tally (alike 0) domains)
+legendText named domains = texts (someText named domains) 0 64 ++ openText (tally (holding 2) domains) ++ emptyText (tally (alike 0) domains)
 
 -- ---- the whole
 
-unfoldable pub gridText : ℕ → ℕ → List ℕ → List ℕ
-gridText width mode domains = columnsText width ++ borderText width (joinsY mode) ++ rowsText width (joinsX mode) domains ++ borderText width (joinsY mode)
+-- the grid with its borders, each cell so many signs wide
+unfoldable pub gridText : ℕ → ℕ → ℕ → List ℕ → List ℕ
+gridText wide width mode domains =
+    columnsText wide width ++ borderText wide width (joinsY mode) ++ rowsText wide width (joinsX mode) domains ++ borderText wide width (joinsY mode)
 
 unfoldable pub chartText : ℕ → ℕ → Bool → ℕ → ℕ → List ℕ → List ℕ
-chartText width mode named end words domains = gridText width mode domains ++ seamText mode ++ endText end words ++ legendText named domains
+chartText width mode named end words domains = gridText (wideness domains) width mode domains ++ seamText mode ++ endText end words ++ legendText named domains

@@ -15,6 +15,6 @@ tally f (x ∷ xs) = cond (f x) 1 0 + tally f xs
 abbrev pub alike : ℕ → ℕ → Bool
 alike word w = eqb w word
 
--- a cell with two or more patterns
-abbrev pub undecided : ℕ → Bool
-undecided w = leb 2 (howMany 64 w)
+-- a cell with so many patterns or more
+abbrev pub holding : ℕ → ℕ → Bool
+holding many w = leb many (howMany 64 w)

@@ -2,14 +2,16 @@
 ghost use mathlib.Core.Path.{_≡_};
 ghost use mathlib.Core.List.{List};
 ghost use Prim.Native.Nat.{_/_, _<_, _*_, _+_, _≤_};
-ghost use lib.ListN.{length};
+ghost use lib.ListN.{replicate};
+ghost use Rattle.chart.specs.Chart as meaning;
 ghost use Rattle.text.specs.Pages.{page, put, texts};
 ghost use Rattle.chart.specs.Chart.{cellText, cellsText, rowText, rowOf, rowCount, rowsText, borderText, columnText, columnsText, seamText, endText, labelText, entryText, someText, openText, emptyText, legendText, gridText, chartText};
-ghost use Rattle.chart.specs.Tallies.{tally, alike, undecided};
+ghost use Rattle.chart.specs.Tallies.{tally, alike, holding};
 use crate::signs::border;
 use crate::signs::glyph;
 use crate::signs::joins_x;
 use crate::signs::joins_y;
+use text::put_aligned;
 use text::put_byte;
 use text::put_decimal;
 use text::put_line;
@@ -19,44 +21,54 @@ use text::put_text;
 
 // ---- the grid
 
-// A cell, two columns wide.
-fn put_cell(word: u64, at: usize, out: &mut [u8]) -> usize
-    ensures { λ r. ⌜ page (now (out .exit)) r ≡ put (cellText word) (page (now (out .entry)) at) ⌝ }
+// How many signs wide a cell is.
+fn wideness(domains: &[u64]) -> usize
+    ensures { λ r. ⌜ r ≡ meaning.wideness (now (domains .entry)) ⌝ }
+{
+    if count_holding(domains, 10) == 0 {
+        2
+    } else {
+        3
+    }
+}
+
+// A cell, so many signs wide.
+fn put_cell(wide: usize, word: u64, at: usize, out: &mut [u8]) -> usize
+    ensures { λ r. ⌜ page (now (out .exit)) r ≡ put (cellText wide word) (page (now (out .entry)) at) ⌝ }
 {
     if word == 0 {
-        return put_text(b"??", at, out);
+        return put_aligned(wide, b"??", at, out);
     }
     let left = words::inner::count_ones(word);
     if left == 1 {
-        let sign = glyph(words::inner::next_pattern(word));
-        let next = put_byte(b' ', at, out);
-        return put_byte(sign, next, out);
+        let sign = [glyph(words::inner::next_pattern(word))];
+        return put_aligned(wide, &sign, at, out);
     }
-    put_padded(2, left, at, out)
+    put_padded(wide, left, at, out)
 }
 
 // The cells of a row.
-fn put_cells(row: &[u64], at: usize, out: &mut [u8]) -> usize
-    ensures { λ r. ⌜ page (now (out .exit)) r ≡ put (cellsText (now (row .entry))) (page (now (out .entry)) at) ⌝ }
+fn put_cells(wide: usize, row: &[u64], at: usize, out: &mut [u8]) -> usize
+    ensures { λ r. ⌜ page (now (out .exit)) r ≡ put (cellsText wide (now (row .entry))) (page (now (out .entry)) at) ⌝ }
 {
     let mut next = at;
     let mut x = 0;
     while x < row.len() {
-        next = put_cell(row[x], next, out);
+        next = put_cell(wide, row[x], next, out);
         x += 1;
     }
     next
 }
 
 // A row, with its number and its borders.
-fn put_row(y: usize, joined: bool, row: &[u64], at: usize, out: &mut [u8]) -> usize
-    ensures { λ r. ⌜ page (now (out .exit)) r ≡ put (rowText y joined (now (row .entry))) (page (now (out .entry)) at) ⌝ }
+fn put_row(wide: usize, y: usize, joined: bool, row: &[u64], at: usize, out: &mut [u8]) -> usize
+    ensures { λ r. ⌜ page (now (out .exit)) r ≡ put (rowText wide y joined (now (row .entry))) (page (now (out .entry)) at) ⌝ }
 {
     let sign = border(joined, b'|');
     let a = put_padded(2, y, at, out);
     let b = put_byte(b' ', a, out);
     let c = put_byte(sign, b, out);
-    let d = put_cells(row, c, out);
+    let d = put_cells(wide, row, c, out);
     let e = put_byte(b' ', d, out);
     let f = put_byte(sign, e, out);
     put_byte(b'\n', f, out)
@@ -71,6 +83,7 @@ pub(crate) fn row_count(width: usize, cells: usize) -> usize
 
 // Row y of the domains.
 fn put_row_of(
+    wide: usize,
     width: usize,
     y: usize,
     joined: bool,
@@ -80,80 +93,106 @@ fn put_row_of(
 ) -> usize
     requires { ⌜ y < rowCount width (now domains) ⌝ }
     ensures { λ r. ⌜ page (now (out .exit)) r
-        ≡ put (rowText y joined (rowOf width (now (domains .entry)) y)) (page (now (out .entry)) at) ⌝ }
+        ≡ put (rowText wide y joined (rowOf width (now (domains .entry)) y)) (page (now (out .entry)) at) ⌝ }
 {
     let start = y * width;
     let end = start + width;
-    put_row(y, joined, &domains[start..end], at, out)
+    put_row(wide, y, joined, &domains[start..end], at, out)
 }
 
 // The rows.
-fn put_rows(width: usize, joined: bool, domains: &[u64], at: usize, out: &mut [u8]) -> usize
-    ensures { λ r. ⌜ page (now (out .exit)) r ≡ put (rowsText width joined (now (domains .entry))) (page (now (out .entry)) at) ⌝ }
+fn put_rows(
+    wide: usize,
+    width: usize,
+    joined: bool,
+    domains: &[u64],
+    at: usize,
+    out: &mut [u8],
+) -> usize
+    ensures { λ r. ⌜ page (now (out .exit)) r ≡ put (rowsText wide width joined (now (domains .entry))) (page (now (out .entry)) at) ⌝ }
 {
     let rows = row_count(width, domains.len());
     let mut next = at;
     let mut y = 0;
     while y < rows {
-        next = put_row_of(width, y, joined, domains, next, out);
+        next = put_row_of(wide, width, y, joined, domains, next, out);
         y += 1;
     }
     next
 }
 
-// The north or the south border.
-fn put_border(width: usize, joined: bool, at: usize, out: &mut [u8]) -> usize
-    ensures { λ r. ⌜ page (now (out .exit)) r ≡ put (borderText width joined) (page (now (out .entry)) at) ⌝ }
-{
-    let sign = border(joined, b'-');
-    let a = put_text(b"   +", at, out);
-    let b = put_repeated(sign, width, a, out);
-    let c = put_repeated(sign, width, b, out);
-    let d = put_byte(sign, c, out);
-    put_text(b"+\n", d, out)
-}
-
-// A column's number over every fourth column.
-fn put_column(x: usize, at: usize, out: &mut [u8]) -> usize
-    ensures { λ r. ⌜ page (now (out .exit)) r ≡ put (columnText x) (page (now (out .entry)) at) ⌝ }
-{
-    if x % 4 == 0 {
-        return put_padded(2, x, at, out);
-    }
-    put_text(b"  ", at, out)
-}
-
-// The columns' numbers.
-fn put_numbers(width: usize, at: usize, out: &mut [u8]) -> usize
-    ensures { λ r. ⌜ page (now (out .exit)) r ≡ put (texts columnText 0 width) (page (now (out .entry)) at) ⌝ }
+// So many signs over each cell.
+fn put_side(wide: usize, width: usize, sign: u8, at: usize, out: &mut [u8]) -> usize
+    ensures { λ r. ⌜ page (now (out .exit)) r ≡ put (texts (λ x. replicate wide sign) 0 width) (page (now (out .entry)) at) ⌝ }
 {
     let mut next = at;
     let mut x = 0;
     while x < width {
-        next = put_column(x, next, out);
+        next = put_repeated(sign, wide, next, out);
+        x += 1;
+    }
+    next
+}
+
+// The north or the south border.
+fn put_border(wide: usize, width: usize, joined: bool, at: usize, out: &mut [u8]) -> usize
+    ensures { λ r. ⌜ page (now (out .exit)) r ≡ put (borderText wide width joined) (page (now (out .entry)) at) ⌝ }
+{
+    let sign = border(joined, b'-');
+    let a = put_text(b"   +", at, out);
+    let b = put_side(wide, width, sign, a, out);
+    let c = put_byte(sign, b, out);
+    put_text(b"+\n", c, out)
+}
+
+// A column's number over every fourth column.
+fn put_column(wide: usize, x: usize, at: usize, out: &mut [u8]) -> usize
+    ensures { λ r. ⌜ page (now (out .exit)) r ≡ put (columnText wide x) (page (now (out .entry)) at) ⌝ }
+{
+    if x % 4 == 0 {
+        return put_padded(wide, x, at, out);
+    }
+    put_repeated(b' ', wide, at, out)
+}
+
+// The columns' numbers.
+fn put_numbers(wide: usize, width: usize, at: usize, out: &mut [u8]) -> usize
+    ensures { λ r. ⌜ page (now (out .exit)) r ≡ put (texts (columnText wide) 0 width) (page (now (out .entry)) at) ⌝ }
+{
+    let mut next = at;
+    let mut x = 0;
+    while x < width {
+        next = put_column(wide, x, next, out);
         x += 1;
     }
     next
 }
 
 // The line over the grid.
-fn put_columns(width: usize, at: usize, out: &mut [u8]) -> usize
-    ensures { λ r. ⌜ page (now (out .exit)) r ≡ put (columnsText width) (page (now (out .entry)) at) ⌝ }
+fn put_columns(wide: usize, width: usize, at: usize, out: &mut [u8]) -> usize
+    ensures { λ r. ⌜ page (now (out .exit)) r ≡ put (columnsText wide width) (page (now (out .entry)) at) ⌝ }
 {
     let a = put_text(b"    ", at, out);
-    let b = put_numbers(width, a, out);
+    let b = put_numbers(wide, width, a, out);
     put_byte(b'\n', b, out)
 }
 
 // The grid with its borders.
-fn put_grid(width: usize, mode: usize, domains: &[u64], at: usize, out: &mut [u8]) -> usize
-    ensures { λ r. ⌜ page (now (out .exit)) r ≡ put (gridText width mode (now (domains .entry))) (page (now (out .entry)) at) ⌝ }
+fn put_grid(
+    wide: usize,
+    width: usize,
+    mode: usize,
+    domains: &[u64],
+    at: usize,
+    out: &mut [u8],
+) -> usize
+    ensures { λ r. ⌜ page (now (out .exit)) r ≡ put (gridText wide width mode (now (domains .entry))) (page (now (out .entry)) at) ⌝ }
 {
     let across = joins_y(mode);
-    let a = put_columns(width, at, out);
-    let b = put_border(width, across, a, out);
-    let c = put_rows(width, joins_x(mode), domains, b, out);
-    put_border(width, across, c, out)
+    let a = put_columns(wide, width, at, out);
+    let b = put_border(wide, width, across, a, out);
+    let c = put_rows(wide, width, joins_x(mode), domains, b, out);
+    put_border(wide, width, across, c, out)
 }
 
 // ---- in words
@@ -204,16 +243,16 @@ pub(crate) fn count_alike(domains: &[u64], word: u64) -> usize
     cells
 }
 
-// How many cells are undecided.
-fn count_undecided(domains: &[u64]) -> usize
-    ensures { λ r. ⌜ r ≡ tally undecided (now (domains .entry)) ⌝ }
+// How many cells have so many patterns or more.
+fn count_holding(domains: &[u64], many: usize) -> usize
+    ensures { λ r. ⌜ r ≡ tally (holding many) (now (domains .entry)) ⌝ }
 {
     let mut cells = 0;
     let mut i = 0;
     while i < domains.len() {
         let left = words::inner::count_ones(domains[i]);
         i += 1;
-        if 2 <= left {
+        if many <= left {
             cells += 1;
         }
     }
@@ -298,7 +337,7 @@ fn put_empty(cells: usize, at: usize, out: &mut [u8]) -> usize
 fn put_legend(named: bool, domains: &[u64], at: usize, out: &mut [u8]) -> usize
     ensures { λ r. ⌜ page (now (out .exit)) r ≡ put (legendText named (now (domains .entry))) (page (now (out .entry)) at) ⌝ }
 {
-    let open = count_undecided(domains);
+    let open = count_holding(domains, 2);
     let empty = count_alike(domains, 0);
     let a = put_patterns(named, domains, at, out);
     let b = put_open(open, a, out);
@@ -319,7 +358,7 @@ pub fn put_chart(
     ensures { λ r. ⌜ page (now (out .exit)) r
         ≡ put (chartText width mode named end words (now (domains .entry))) (page (now (out .entry)) at) ⌝ }
 {
-    let a = put_grid(width, mode, domains, at, out);
+    let a = put_grid(wideness(domains), width, mode, domains, at, out);
     let b = put_seam(mode, a, out);
     let c = put_end(end, words, b, out);
     put_legend(named, domains, c, out)

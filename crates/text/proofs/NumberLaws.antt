@@ -7,7 +7,7 @@ use native.Mathlib.Omega.{arith}
 use lib.Dec.{ltb}
 use lib.ListN.{length, replicate, length-append}
 use borrow.Author.Tests.{lt-ltb, le-ltb}
-use Rattle.text.specs.Numbers.{digits, decimal, padded}
+use Rattle.text.specs.Numbers.{digits, decimal, aligned, padded}
 use Rattle.text.specs.Pages.{Page, put}
 use Rattle.text.proofs.PageLaws.{put-none, puts}
 
@@ -59,6 +59,10 @@ module _ (places n : ℕ) (p q : Page) where
     more-put m l d e = rw (digits-more places n some l, ← last) (puts _ _ _ _ _ d e)
 
 pub padded-put : (width n : ℕ) (p q r : Page) (k m : ℕ) → k ≡ length (digits 20 n) → m ≡ width - k → q ≡ put (replicate m 32) p → r ≡ put (decimal n) q → r ≡ put (padded width n) p
-unfolding decimal padded
+unfolding decimal aligned padded
 padded-put width n p q r k m e f g h =
     puts _ _ _ _ _ (g ∙ ap (λ (j : ℕ). put (replicate j 32) p) (f ∙ ap (λ (j : ℕ). width - j) e)) h
+
+pub aligned-put : (width : ℕ) (t : List ℕ) (p q r : Page) (m : ℕ) → m ≡ width - length t → q ≡ put (replicate m 32) p → r ≡ put t q → r ≡ put (aligned width t) p
+unfolding aligned
+aligned-put width t p q r m e f g = puts _ _ _ _ _ (f ∙ ap (λ (j : ℕ). put (replicate j 32) p) e) g

@@ -15,7 +15,11 @@ unfoldable pub decimal : ℕ → List ℕ
 unfolding digits
 decimal n = digits 20 n
 
--- a number in decimal, with spaces in front where it is shorter than the width
+-- a text at the end of so wide a column: with spaces in front where it is shorter
+unfoldable pub aligned : ℕ → List ℕ → List ℕ
+aligned width t = replicate (width - length t) 32 ++ t
+
+-- a number in decimal at the end of so wide a column
 unfoldable pub padded : ℕ → ℕ → List ℕ
-unfolding decimal
-padded width n = replicate (width - length (decimal n)) 32 ++ decimal n
+unfolding decimal aligned
+padded width n = aligned width (decimal n)

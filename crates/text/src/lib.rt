@@ -6,7 +6,7 @@ ghost use mathlib.Core.List.{_∷_, []};
 ghost use Prim.Native.Nat.{_+_, _-_, _<_};
 ghost use lib.ListN.{length, replicate};
 ghost use Rattle.text.specs.Pages.{page, put, line};
-ghost use Rattle.text.specs.Numbers.{digits, decimal, padded};
+ghost use Rattle.text.specs.Numbers.{digits, decimal, aligned, padded};
 
 // One byte.
 pub fn put_byte(byte: u8, at: usize, out: &mut [u8]) -> usize
@@ -114,6 +114,14 @@ fn room(width: usize, taken: usize) -> usize
     ensures { λ r. ⌜ r ≡ width - taken ⌝ }
 {
     if taken < width { width - taken } else { 0 }
+}
+
+// A text at the end of so wide a column.
+pub fn put_aligned(width: usize, text: &[u8], at: usize, out: &mut [u8]) -> usize
+    ensures { λ r. ⌜ page (now (out .exit)) r ≡ put (aligned width (now (text .entry))) (page (now (out .entry)) at) ⌝ }
+{
+    let next = put_repeated(b' ', room(width, text.len()), at, out);
+    put_text(text, next, out)
 }
 
 // A number in decimal at the end of so wide a column.

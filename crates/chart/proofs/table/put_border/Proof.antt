@@ -14,11 +14,8 @@ slice-aggregate-put-text c = search needs
 put-text-requires : tie.Need-put-text-requires
 put-text-requires c κs = search needs
 
-put-repeated-requires : tie.Need-put-repeated-requires
-put-repeated-requires c κs = search needs
-
-put-repeated-requires-2 : tie.Need-put-repeated-requires-2
-put-repeated-requires-2 c κs = search needs
+put-side-requires : tie.Need-put-side-requires
+put-side-requires c κs = search needs
 
 put-byte-requires : tie.Need-put-byte-requires
 put-byte-requires c κs = search needs
@@ -33,8 +30,8 @@ same-length : tie.Need-same-length
 same-length c = search needs
 
 returns : tie.Need-returns
-returns c = border-put _ _ _ _ _ _ _ _ _ (c .before .before .before .before .before .before .before .before .before .before .before .before .before .before .before .before .before .before .before .before .before .before .border .ensures)
-    (c .before .before .before .before .before .before .before .before .before .before .before .before .before .before .before .before .before .before .before .put-text .ensures) (c .before .before .before .before .before .before .before .before .before .before .before .before .before .before .before .put-repeated .ensures) (c .before .before .before .before .before .before .before .before .before .before .before .put-repeated2 .ensures) (c .before .before .before .before .before .before .before .put-byte .ensures) (c .before .before .put-text2 .ensures)
+returns c = border-put _ _ _ _ _ _ _ _ _ (c .before .before .before .before .before .before .before .before .before .before .before .before .before .before .before .before .before .before .border .ensures)
+    (c .before .before .before .before .before .before .before .before .before .before .before .before .before .before .before .put-text .ensures) (c .before .before .before .before .before .before .before .before .before .before .before .put-side .ensures) (c .before .before .before .before .before .before .before .put-byte .ensures) (c .before .before .put-text2 .ensures)
 
 pub put-border-spec : {M : Type 1} → statement M
 put-border-spec =
@@ -43,8 +40,7 @@ put-border-spec =
     border-requires
     slice-aggregate-put-text
     put-text-requires
-    put-repeated-requires
-    put-repeated-requires-2
+    put-side-requires
     put-byte-requires
     slice-aggregate-put-text-2
     put-text-requires-2

@@ -11,15 +11,15 @@ use Rattle.chart.proofs.table.put_cells.Statement.{statement}
 use Rattle.chart.proofs.table.put_cells.Tie as tie
 
 abbrev Inv-loop : tie.InvT-loop
-Inv-loop row at out₀ next₀ x₀ out next x =
-    (x ≤ length row) × (length out ≡ length out₀) × (put (texts (λ x. cellText (getD row x 0)) x (length row - x)) (page out next) ≡ put (cellsText row) (page out₀ at))
+Inv-loop wide row at out₀ next₀ x₀ out next x =
+    (x ≤ length row) × (length out ≡ length out₀) × (put (texts (λ k. cellText wide (getD row k 0)) x (length row - x)) (page out next) ≡ put (cellsText wide row) (page out₀ at))
 
 abbrev μ-loop : tie.MeasureT-loop
-μ-loop row at out₀ next₀ x₀ out next x = length row - x
+μ-loop wide row at out₀ next₀ x₀ out next x = length row - x
 
 loop-holds : tie.Need-loop-holds Inv-loop μ-loop
 unfolding cellsText
-loop-holds c = (omega arith, refl, texts-start (λ x. cellText (getD (c .before .before .args .row .now) x 0)) (length (c .before .before .args .row .now)) _)
+loop-holds c = (omega arith, refl, texts-start (λ k. cellText (c .before .before .args .wide) (getD (c .before .before .args .row .now) k 0)) (length (c .before .before .args .row .now)) _)
 
 mul-put-cell : tie.Need-mul-put-cell Inv-loop μ-loop
 mul-put-cell c = omega arith
@@ -40,7 +40,7 @@ loop-again : tie.Need-loop-again Inv-loop μ-loop
 loop-again c =
     let turn = c .before .before .before .before .before in (
       omega arith,
-      c .before .before .put-cell .kept .1 .1 .0 ∙ turn .before .loop .inv .1,
+      c .before .before .put-cell .kept .1 .1 .1 .0 ∙ turn .before .loop .inv .1,
       texts-turn _ _ _ _ _ (turn .loop-test .taken) (c .before .before .put-cell .ensures) (turn .before .loop .inv .2),
     )
 

@@ -1,10 +1,12 @@
 -- `chart::table::put_chart` meets its contract: its parts in a row.
 -- Assumes nothing.
 use borrow.Author.Needs.{needs}
-use Rattle.chart.specs.Chart.{chartText}
-use Rattle.text.proofs.PageLaws.{puts}
+use Rattle.chart.proofs.ChartLaws.{chart-put}
 use Rattle.chart.proofs.table.put_chart.Statement.{statement}
 use Rattle.chart.proofs.table.put_chart.Tie as tie
+
+wideness-requires : tie.Need-wideness-requires
+wideness-requires c κs = search needs
 
 put-grid-requires : tie.Need-put-grid-requires
 put-grid-requires c κs = search needs
@@ -22,13 +24,14 @@ same-length : tie.Need-same-length
 same-length c = search needs
 
 returns : tie.Need-returns
-unfolding chartText
-returns c = puts _ _ _ _ _ (puts _ _ _ _ _ (puts _ _ _ _ _ (c .before .before .before .before .before .before .before .before .before .before .before .before .before .before .put-grid .ensures) (c .before .before .before .before .before .before .before .before .before .before .put-seam .ensures)) (c .before .before .before .before .before .before .put-end .ensures)) (c .before .before .put-legend .ensures)
+returns c = chart-put _ _ _ _ _ _ _ _ _ _ _ _ (c .before .before .before .before .before .before .before .before .before .before .before .before .before .before .before .before .wideness .ensures)
+    (c .before .before .before .before .before .before .before .before .before .before .before .before .before .before .put-grid .ensures) (c .before .before .before .before .before .before .before .before .before .before .put-seam .ensures) (c .before .before .before .before .before .before .put-end .ensures) (c .before .before .put-legend .ensures)
 
 pub put-chart-spec : {M : Type 1} → statement M
 put-chart-spec =
     tie.close
     (tie.spec
+    wideness-requires
     put-grid-requires
     put-seam-requires
     put-end-requires

@@ -12,19 +12,16 @@ same-length : tie.Need-same-length
 same-length c = search needs
 
 returns : tie.Need-returns
-returns c = column-told _ _ _ (c .before .before .before .before .if1 .taken) (c .before .before .put-padded .ensures)
+returns c = column-told _ _ _ _ (c .before .before .before .before .if1 .taken) (c .before .before .put-padded .ensures)
 
-slice-aggregate-put-text : tie.Need-slice-aggregate-put-text
-slice-aggregate-put-text c = search needs
-
-put-text-requires : tie.Need-put-text-requires
-put-text-requires c κs = search needs
+put-repeated-requires : tie.Need-put-repeated-requires
+put-repeated-requires c κs = search needs
 
 same-length-2 : tie.Need-same-length-2
 same-length-2 c = search needs
 
 returns-2 : tie.Need-returns-2
-returns-2 c = column-blank _ _ _ (c .before .before .before .before .before .if1 .left) (c .before .before .put-text .ensures)
+returns-2 c = column-blank _ _ _ _ (c .before .before .before .before .if1 .left) (c .before .before .put-repeated .ensures)
 
 pub put-column-spec : {M : Type 1} → statement M
 put-column-spec =
@@ -33,7 +30,6 @@ put-column-spec =
     put-padded-requires
     same-length
     returns
-    slice-aggregate-put-text
-    put-text-requires
+    put-repeated-requires
     same-length-2
     returns-2)

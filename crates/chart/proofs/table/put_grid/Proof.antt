@@ -27,7 +27,7 @@ same-length : tie.Need-same-length
 same-length c = search needs
 
 returns : tie.Need-returns
-returns c = grid-put _ _ _ _ _ _ _ _ _ _ (c .before .before .before .before .before .before .before .before .before .before .before .before .before .before .before .before .before .joins-y .ensures) (c .before .before .before .before .before .before .before .before .joins-x .ensures)
+returns c = grid-put _ _ _ _ _ _ _ _ _ _ _ (c .before .before .before .before .before .before .before .before .before .before .before .before .before .before .before .before .before .joins-y .ensures) (c .before .before .before .before .before .before .before .before .joins-x .ensures)
     (c .before .before .before .before .before .before .before .before .before .before .before .before .before .before .before .put-columns .ensures) (c .before .before .before .before .before .before .before .before .before .before .before .put-border .ensures) (c .before .before .before .before .before .before .put-rows .ensures) (c .before .before .put-border2 .ensures)
 
 pub put-grid-spec : {M : Type 1} → statement M

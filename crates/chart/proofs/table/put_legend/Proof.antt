@@ -5,8 +5,8 @@ use Rattle.chart.proofs.ChartLaws.{legend-put}
 use Rattle.chart.proofs.table.put_legend.Statement.{statement}
 use Rattle.chart.proofs.table.put_legend.Tie as tie
 
-count-undecided-requires : tie.Need-count-undecided-requires
-count-undecided-requires c κs = search needs
+count-holding-requires : tie.Need-count-holding-requires
+count-holding-requires c κs = search needs
 
 count-alike-requires : tie.Need-count-alike-requires
 count-alike-requires c κs = search needs
@@ -24,14 +24,14 @@ same-length : tie.Need-same-length
 same-length c = search needs
 
 returns : tie.Need-returns
-returns c = legend-put _ _ _ _ _ _ _ _ (c .before .before .before .before .before .before .before .before .before .before .before .before .before .count-undecided .ensures) (c .before .before .before .before .before .before .before .before .before .before .before .before .count-alike .ensures)
+returns c = legend-put _ _ _ _ _ _ _ _ (c .before .before .before .before .before .before .before .before .before .before .before .before .before .count-holding .ensures) (c .before .before .before .before .before .before .before .before .before .before .before .before .count-alike .ensures)
     (c .before .before .before .before .before .before .before .before .before .before .put-patterns .ensures) (c .before .before .before .before .before .before .put-open .ensures) (c .before .before .put-empty .ensures)
 
 pub put-legend-spec : {M : Type 1} → statement M
 put-legend-spec =
     tie.close
     (tie.spec
-    count-undecided-requires
+    count-holding-requires
     count-alike-requires
     put-patterns-requires
     put-open-requires

@@ -1,7 +1,7 @@
 -- `chart::table::put_numbers` meets its contract. The invariant: the numbers that are left, put on the page now, are all of them, put on the page at entry.
 -- Assumes nothing.
 use native.Mathlib.Omega.{arith}
-use mathlib.Core.Path.{_≡_, refl, sym, ap, _∙_}
+use mathlib.Core.Path.{_≡_, refl, _∙_}
 use Prim.Native.Nat.{_-_, _≤_}
 use lib.ListN.{length}
 use Rattle.text.specs.Pages.{page, put, texts}
@@ -11,14 +11,14 @@ use Rattle.chart.proofs.table.put_numbers.Statement.{statement}
 use Rattle.chart.proofs.table.put_numbers.Tie as tie
 
 abbrev Inv-loop : tie.InvT-loop
-Inv-loop width at out₀ next₀ x₀ out next x =
-    (x ≤ width) × (length out ≡ length out₀) × (put (texts columnText x (width - x)) (page out next) ≡ put (texts columnText 0 width) (page out₀ at))
+Inv-loop wide width at out₀ next₀ x₀ out next x =
+    (x ≤ width) × (length out ≡ length out₀) × (put (texts (columnText wide) x (width - x)) (page out next) ≡ put (texts (columnText wide) 0 width) (page out₀ at))
 
 abbrev μ-loop : tie.MeasureT-loop
-μ-loop width at out₀ next₀ x₀ out next x = width - x
+μ-loop wide width at out₀ next₀ x₀ out next x = width - x
 
 loop-holds : tie.Need-loop-holds Inv-loop μ-loop
-loop-holds c = (omega arith, refl, texts-start columnText (c .before .args .width) _)
+loop-holds c = (omega arith, refl, texts-start (columnText (c .before .args .wide)) (c .before .args .width) _)
 
 put-column-requires : tie.Need-put-column-requires Inv-loop μ-loop
 put-column-requires c κs = tt
@@ -33,7 +33,7 @@ loop-again : tie.Need-loop-again Inv-loop μ-loop
 loop-again c =
     let turn = c .before .before .before .before in (
       omega arith,
-      c .before .before .put-column .kept .1 .1 .0 ∙ turn .before .loop .inv .1,
+      c .before .before .put-column .kept .1 .1 .1 .0 ∙ turn .before .loop .inv .1,
       texts-turn _ _ _ _ _ (turn .loop-test .taken) (c .before .before .put-column .ensures) (turn .before .loop .inv .2),
     )
 

@@ -32,7 +32,7 @@ same-length : tie.Need-same-length
 same-length c = search needs
 
 returns : tie.Need-returns
-returns c = row-taken _ _ _ _ _ _ (c .before .before .put-row .ensures)
+returns c = row-taken _ _ _ _ _ _ _ (c .before .before .put-row .ensures)
 
 pub put-row-of-spec : {M : Type 1} → statement M
 put-row-of-spec =

@@ -11,11 +11,11 @@ use Rattle.chart.proofs.table.put_rows.Statement.{statement}
 use Rattle.chart.proofs.table.put_rows.Tie as tie
 
 abbrev Inv-loop : tie.InvT-loop
-Inv-loop width joined domains at out₀ rows next₀ y₀ out next y =
-    (y ≤ rows) × (length out ≡ length out₀) × (rows ≡ rowCount width domains) × (put (texts (λ y. rowText y joined (rowOf width domains y)) y (rows - y)) (page out next) ≡ put (rowsText width joined domains) (page out₀ at))
+Inv-loop wide width joined domains at out₀ rows next₀ y₀ out next y =
+    (y ≤ rows) × (length out ≡ length out₀) × (rows ≡ rowCount width domains) × (put (texts (λ y. rowText wide y joined (rowOf width domains y)) y (rows - y)) (page out next) ≡ put (rowsText wide width joined domains) (page out₀ at))
 
 abbrev μ-loop : tie.MeasureT-loop
-μ-loop width joined domains at out₀ rows next₀ y₀ out next y = rows - y
+μ-loop wide width joined domains at out₀ rows next₀ y₀ out next y = rows - y
 
 row-count-requires : tie.Need-row-count-requires Inv-loop μ-loop
 row-count-requires c κs = tt
@@ -24,7 +24,7 @@ loop-holds : tie.Need-loop-holds Inv-loop μ-loop
 unfolding rowsText
 loop-holds c =
     let a = c .before .before .before .args in
-    (omega arith, refl, c .row-count .ensures, texts-start (λ y. rowText y (a .joined) (rowOf (a .width) (a .domains .now) y)) _ _ ∙ ap (λ (n : ℕ). put (texts (λ y. rowText y (a .joined) (rowOf (a .width) (a .domains .now) y)) 0 n) (page (a .out .now) (a .at))) (c .row-count .ensures))
+    (omega arith, refl, c .row-count .ensures, texts-start (λ y. rowText (a .wide) y (a .joined) (rowOf (a .width) (a .domains .now) y)) _ _ ∙ ap (λ (n : ℕ). put (texts (λ y. rowText (a .wide) y (a .joined) (rowOf (a .width) (a .domains .now) y)) 0 n) (page (a .out .now) (a .at))) (c .row-count .ensures))
 
 put-row-of-requires : tie.Need-put-row-of-requires Inv-loop μ-loop
 put-row-of-requires c κs = rw (← c .before .before .loop .inv .2) (c .before .loop-test .taken)
@@ -39,7 +39,7 @@ loop-again : tie.Need-loop-again Inv-loop μ-loop
 loop-again c =
     let turn = c .before .before .before .before in (
       omega arith,
-      c .before .before .put-row-of .kept .1 .1 .1 .1 .1 .0 ∙ turn .before .loop .inv .1,
+      c .before .before .put-row-of .kept .1 .1 .1 .1 .1 .1 .0 ∙ turn .before .loop .inv .1,
       turn .before .loop .inv .2,
       texts-turn _ _ _ _ _ (turn .loop-test .taken) (c .before .before .put-row-of .ensures) (turn .before .loop .inv .3),
     )

@@ -1,21 +1,21 @@
--- `chart::table::count_undecided` meets its contract. The invariant: what was counted and what is left to count are the whole.
+-- `chart::table::count_holding` meets its contract. The invariant: what was counted and what is left to count are the whole.
 -- Assumes nothing.
 use native.Mathlib.Omega.{arith}
-use mathlib.Core.Path.{_≡_, refl, sym, _∙_}
+use mathlib.Core.Path.{_≡_}
 use Prim.Native.Nat.{_+_, _-_, _≤_}
 use lib.ListN.{length, drop}
 use borrow.Author.Tests.{le-leb, lt-leb}
-use Rattle.chart.specs.Tallies.{tally, undecided}
+use Rattle.chart.specs.Tallies.{tally, holding}
 use Rattle.chart.proofs.TallyLaws.{tally-more, tally-same, tally-end}
-use Rattle.chart.proofs.table.count_undecided.Statement.{statement}
-use Rattle.chart.proofs.table.count_undecided.Tie as tie
+use Rattle.chart.proofs.table.count_holding.Statement.{statement}
+use Rattle.chart.proofs.table.count_holding.Tie as tie
 
 abbrev Inv-loop : tie.InvT-loop
-Inv-loop domains cells₀ i₀ cells i =
-    (i ≤ length domains) × (cells ≤ i) × (cells + tally undecided (drop i domains) ≡ tally undecided domains)
+Inv-loop domains many cells₀ i₀ cells i =
+    (i ≤ length domains) × (cells ≤ i) × (cells + tally (holding many) (drop i domains) ≡ tally (holding many) domains)
 
 abbrev μ-loop : tie.MeasureT-loop
-μ-loop domains cells₀ i₀ cells i = length domains - i
+μ-loop domains many cells₀ i₀ cells i = length domains - i
 
 loop-holds : tie.Need-loop-holds Inv-loop μ-loop
 loop-holds c = (omega arith, omega arith, omega arith)
@@ -54,8 +54,8 @@ loop-again-2 c =
 returns : tie.Need-returns Inv-loop μ-loop
 returns c = tally-end _ _ _ _ (c .loop-test .left) (c .before .loop .inv .2)
 
-pub count-undecided-spec : {M : Type 1} → statement M
-count-undecided-spec =
+pub count-holding-spec : {M : Type 1} → statement M
+count-holding-spec =
     tie.close
     (tie.spec
     Inv-loop
