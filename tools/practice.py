@@ -92,15 +92,15 @@ def main():
     with open(os.path.join(here, "src", "bytes.rt"), "w") as f:
         f.write("// The practice ocean's sheet. Written by tools/practice.py.\n\n")
         f.write(f"pub(crate) const SHEET: [u8; {len(data)}] = [\n")
-        for i in range(0, len(data), 24):
-            f.write("    " + ", ".join(map(str, data[i:i + 24])) + ",\n")
+        for byte in data:
+            f.write(f"    {byte},\n")
         f.write("];\n")
     with open(os.path.join(here, "specs", "Bytes.antt"), "w") as f:
         f.write("-- The practice ocean's sheet, record by record. Written by tools/practice.py. Follows docs/RULES.md, \"Sheet\".\n")
         f.write("-- Assumes nothing.\nuse mathlib.Core.List.{List, [], _∷_}\nuse Prim.Native.Nat.{ℕ}\n\n")
         f.write("unfoldable pub bytes : List ℕ\nbytes =\n")
         for comment, bs in rows:
-            f.write("    " + " ∷ ".join(map(str, bs)) + f" ∷ -- {comment}\n")
+            f.write("    " + " ∷ ".join(map(str, bs)) + f" ∷  -- {comment}\n")
         f.write("    []\n")
 
 
