@@ -20,7 +20,7 @@ use Rattle.chart.specs.Chart.{wideness, cellText, cellsText, rowText, ro
 -- ---- a cell
 
 module _ (wide w : ℕ) (p : Page) where
-  pub cell-empty : (q : Page) → w ≡ 0 → q ≡ put (aligned wide (ascii "??")) p → q ≡ put (cellText wide w) p
+  pub cell-empty : (q : Page) → w ≡ 0 → q ≡ put (aligned wide (ascii "?")) p → q ≡ put (cellText wide w) p
   unfolding cellText
   cell-empty q z e = simp (eq-eqb w 0 z) e
 
@@ -113,7 +113,7 @@ pub empty-none : (cells : ℕ) (p : Page) → cells ≡ 0 → p ≡ put (emptyTe
 unfolding emptyText
 empty-none cells p z = simp (eq-eqb cells 0 z) (sym (put-none p))
 
-pub empty-put : (cells : ℕ) (p q r s : Page) → (cells ≡ 0 → ⊥) → q ≡ put (ascii " ??") p → r ≡ put (padded 6 cells) q → s ≡ put (ascii "  empty: no pattern remains\n") r → s ≡ put (emptyText cells) p
+pub empty-put : (cells : ℕ) (p q r s : Page) → (cells ≡ 0 → ⊥) → q ≡ put (ascii "  ?") p → r ≡ put (padded 6 cells) q → s ≡ put (ascii "  empty: no pattern remains\n") r → s ≡ put (emptyText cells) p
 unfolding emptyText
 empty-put cells p q r s z e f g = simp (ne-eqb cells 0 z) (puts _ _ _ _ _ (puts _ _ _ _ _ e f) g)
 

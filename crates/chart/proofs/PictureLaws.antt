@@ -15,7 +15,7 @@ use Rattle.text.proofs.PageLaws.{put-none, puts}
 use Rattle.chart.specs.Signs.{joinsX, joinsY}
 use Rattle.chart.specs.Tallies.{tally, alike}
 use Rattle.chart.specs.Chart.{rowCount, rowOf, endText, labelText}
-use Rattle.chart.specs.Picture.{part, colourText, squareText, fillText, toldText, markText, tilesText, pictureRow, beneath, strokeText, uprightText, levelText, sizeText, footText, captionText, swatchText, shownText, tailText}
+use Rattle.chart.specs.Picture.{part, colourText, squareText, fillText, toldText, markText, tilesText, pictureRow, beneath, breadth, strokeText, uprightText, levelText, sizeText, footText, captionText, swatchText, shownText, tailText}
 
 -- ---- parts in a row, with what they were made of
 
@@ -23,7 +23,7 @@ pub colour-put : (m red green blue : ℕ) (p q1 q2 q3 q4 q5 q6 q7 : Page) → re
 unfolding colourText
 colour-put m red green blue p q1 q2 q3 q4 q5 q6 q7 e1 e2 e3 h1 h2 h3 h4 h5 h6 h7 = rw (← e1, ← e2, ← e3) (puts _ _ _ _ _ (puts _ _ _ _ _ (puts _ _ _ _ _ (puts _ _ _ _ _ (puts _ _ _ _ _ (puts _ _ _ _ _ h1 h2) h3) h4) h5) h6) h7)
 
-pub size-put : (width height wide high : ℕ) (p q1 q2 q3 q4 q5 : Page) → wide ≡ beneath width 2 → high ≡ beneath height 21 → q1 ≡ put (ascii "<svg xmlns=\"http://www.w3.org/2000/svg\" viewBox=\"-1 -2 ") p → q2 ≡ put (decimal wide) q1 → q3 ≡ put (ascii " ") q2 → q4 ≡ put (decimal high) q3 → q5 ≡ put (ascii "\" font-family=\"sans-serif\" font-size=\".6\">\n") q4 → q5 ≡ put (sizeText width height) p
+pub size-put : (width height wide high : ℕ) (p q1 q2 q3 q4 q5 : Page) → wide ≡ breadth width → high ≡ beneath height 21 → q1 ≡ put (ascii "<svg xmlns=\"http://www.w3.org/2000/svg\" viewBox=\"-1 -2 ") p → q2 ≡ put (decimal wide) q1 → q3 ≡ put (ascii " ") q2 → q4 ≡ put (decimal high) q3 → q5 ≡ put (ascii "\" font-family=\"sans-serif\" font-size=\".6\">\n") q4 → q5 ≡ put (sizeText width height) p
 unfolding sizeText
 size-put width height wide high p q1 q2 q3 q4 q5 e1 e2 h1 h2 h3 h4 h5 = rw (← e1, ← e2) (puts _ _ _ _ _ (puts _ _ _ _ _ (puts _ _ _ _ _ (puts _ _ _ _ _ h1 h2) h3) h4) h5)
 
@@ -31,7 +31,7 @@ pub foot-put : (height end words below : ℕ) (p q1 q2 q3 q4 q5 : Page) → belo
 unfolding footText
 foot-put height end words below p q1 q2 q3 q4 q5 e1 h1 h2 h3 h4 h5 = rw (← e1) (puts _ _ _ _ _ (puts _ _ _ _ _ (puts _ _ _ _ _ (puts _ _ _ _ _ h1 h2) h3) h4) h5)
 
-pub swatch-put : (height : ℕ) (named : Bool) (m cells y : ℕ) (p q1 q2 q3 : Page) → y ≡ beneath height (m % 16 + 2) → q1 ≡ put (squareText (m / 16 * 12) y) p → q2 ≡ put (colourText m) q1 → q3 ≡ put (captionText (m / 16 * 12) y named m cells) q2 → q3 ≡ put (swatchText height named m cells) p
+pub swatch-put : (height : ℕ) (named : Bool) (m cells y : ℕ) (p q1 q2 q3 : Page) → y ≡ beneath height (m % 16 + 2) → q1 ≡ put (squareText (m / 16 * 9) y) p → q2 ≡ put (colourText m) q1 → q3 ≡ put (captionText (m / 16 * 9) y named m cells) q2 → q3 ≡ put (swatchText height named m cells) p
 unfolding swatchText
 swatch-put height named m cells y p q1 q2 q3 e1 h1 h2 h3 = rw (← e1) (puts _ _ _ _ _ (puts _ _ _ _ _ h1 h2) h3)
 
@@ -129,3 +129,11 @@ beneath-few height k h = ap (λ (n : ℕ). n + k) (sym (min-eq-left (le-of-lt h)
 pub beneath-many : (height k : ℕ) → 64 ≤ height → 64 + k ≡ beneath height k
 unfolding beneath
 beneath-many height k h = ap (λ (n : ℕ). n + k) (sym (min-eq-right h))
+
+pub breadth-least : (width : ℕ) → width < 28 → 30 ≡ breadth width
+unfolding breadth
+breadth-least width h = simp (lt-ltb width 28 h)
+
+pub breadth-more : (width n : ℕ) → 28 ≤ width → n ≡ beneath width 2 → n ≡ breadth width
+unfolding breadth
+breadth-more width n h e = simp (le-ltb width 28 h) e

@@ -18,10 +18,10 @@ use Rattle.chart.specs.Tallies.{tally, alike, holding}
 unfoldable pub wideness : List ℕ → ℕ
 wideness domains = cond (eqb (tally (holding 10) domains) 0) 2 3
 
--- a cell, so many signs wide: the sign of its pattern, or how many patterns remain, or `??` where none does
+-- a cell, so many signs wide: the sign of its pattern, or how many patterns remain, or `?` where none does
 unfoldable pub cellText : ℕ → ℕ → List ℕ
 cellText wide w =
-    cond (eqb w 0) (aligned wide (ascii "??")) (cond (eqb (howMany 64 w) 1) (aligned wide (glyph (least 64 w) ∷ [])) (padded wide (howMany 64 w)))
+    cond (eqb w 0) (aligned wide (ascii "?")) (cond (eqb (howMany 64 w) 1) (aligned wide (glyph (least 64 w) ∷ [])) (padded wide (howMany 64 w)))
 
 -- the cells of a row
 unfoldable pub cellsText : ℕ → List ℕ → List ℕ
@@ -83,7 +83,7 @@ openText cells = cond (eqb cells 0) [] (ascii "  n" ++ padded 6 cells ++ ascii "
 
 -- the cells without a pattern, where there are any
 unfoldable pub emptyText : ℕ → List ℕ
-emptyText cells = cond (eqb cells 0) [] (ascii " ??" ++ padded 6 cells ++ ascii "  empty: no pattern remains\n")
+emptyText cells = cond (eqb cells 0) [] (ascii "  ?" ++ padded 6 cells ++ ascii "  empty: no pattern remains\n")
 
 unfoldable pub legendText : Bool → List ℕ → List ℕ
 legendText named domains = texts (someText named domains) 0 64 ++ openText (tally (holding 2) domains) ++ emptyText (tally (alike 0) domains)

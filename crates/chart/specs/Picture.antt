@@ -76,6 +76,10 @@ pictureRow width named domains y = cond (ltb y (rowCount width domains)) (tilesT
 unfoldable pub beneath : ℕ → ℕ → ℕ
 beneath height k = min height 64 + k
 
+-- how wide a picture is: as wide as its grid with a margin, and no narrower than the legend
+unfoldable pub breadth : ℕ → ℕ
+breadth width = cond (ltb width 28) 30 (beneath width 2)
+
 -- how a side is drawn: a seam is dashed
 unfoldable pub strokeText : Bool → List ℕ
 strokeText joined = cond joined (ascii "\" stroke=\"black\" stroke-width=\".12\" stroke-dasharray=\".4 .3\"/>\n") (ascii "\" stroke=\"black\" stroke-width=\".12\"/>\n")
@@ -93,7 +97,7 @@ levelText width height joined =
 -- the size of a picture
 unfoldable pub sizeText : ℕ → ℕ → List ℕ
 sizeText width height =
-    ascii "<svg xmlns=\"http://www.w3.org/2000/svg\" viewBox=\"-1 -2 " ++ decimal (beneath width 2) ++ ascii " " ++ decimal (beneath height 21)
+    ascii "<svg xmlns=\"http://www.w3.org/2000/svg\" viewBox=\"-1 -2 " ++ decimal (breadth width) ++ ascii " " ++ decimal (beneath height 21)
     ++ ascii "\" font-family=\"sans-serif\" font-size=\".6\">\n"
 
 -- the hatching of an undecided cell
@@ -125,7 +129,7 @@ captionText x y named p cells = besideText x y ++ decimal p ++ labelText named p
 -- a pattern's entry, sixteen to a column
 unfoldable pub swatchText : ℕ → Bool → ℕ → ℕ → List ℕ
 swatchText height named p cells =
-    squareText (p / 16 * 12) (beneath height (p % 16 + 2)) ++ colourText p ++ captionText (p / 16 * 12) (beneath height (p % 16 + 2)) named p cells
+    squareText (p / 16 * 9) (beneath height (p % 16 + 2)) ++ colourText p ++ captionText (p / 16 * 9) (beneath height (p % 16 + 2)) named p cells
 
 -- the entry of a pattern that stands in some cell
 unfoldable pub shownText : ℕ → Bool → List ℕ → ℕ → List ℕ

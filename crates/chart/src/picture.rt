@@ -374,6 +374,13 @@ fn beneath(height: usize, k: usize) -> usize
     if height < 64 { height + k } else { 64 + k }
 }
 
+// How wide the picture is.
+fn breadth(width: usize) -> usize
+    ensures { λ r. ⌜ r ≡ meaning.breadth width ⌝ }
+{
+    if width < 28 { 30 } else { beneath(width, 2) }
+}
+
 // How a side is drawn.
 fn put_stroke(joined: bool, at: usize, out: &mut [u8]) -> usize
     ensures { λ r. ⌜ page (now (out .exit)) r ≡ put (strokeText joined) (page (now (out .entry)) at) ⌝ }
@@ -418,7 +425,7 @@ fn put_level(width: usize, height: usize, joined: bool, at: usize, out: &mut [u8
 fn put_size(width: usize, height: usize, at: usize, out: &mut [u8]) -> usize
     ensures { λ r. ⌜ page (now (out .exit)) r ≡ put (sizeText width height) (page (now (out .entry)) at) ⌝ }
 {
-    let wide = beneath(width, 2);
+    let wide = breadth(width);
     let high = beneath(height, 21);
     let a = put_text(
         b"<svg xmlns=\"http://www.w3.org/2000/svg\" viewBox=\"-1 -2 ",
@@ -515,7 +522,7 @@ fn put_swatch(
     requires { ⌜ p < 64 ⌝ }
     ensures { λ r. ⌜ page (now (out .exit)) r ≡ put (swatchText height named p cells) (page (now (out .entry)) at) ⌝ }
 {
-    let x = p / 16 * 12;
+    let x = p / 16 * 9;
     let y = beneath(height, p % 16 + 2);
     let a = put_square(x, y, at, out);
     let b = put_colour(p, a, out);

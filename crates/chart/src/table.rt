@@ -37,7 +37,7 @@ fn put_cell(wide: usize, word: u64, at: usize, out: &mut [u8]) -> usize
     ensures { λ r. ⌜ page (now (out .exit)) r ≡ put (cellText wide word) (page (now (out .entry)) at) ⌝ }
 {
     if word == 0 {
-        return put_aligned(wide, b"??", at, out);
+        return put_aligned(wide, b"?", at, out);
     }
     let left = words::inner::count_ones(word);
     if left == 1 {
@@ -328,7 +328,7 @@ fn put_empty(cells: usize, at: usize, out: &mut [u8]) -> usize
     if cells == 0 {
         return at;
     }
-    let a = put_text(b" ??", at, out);
+    let a = put_text(b"  ?", at, out);
     let b = put_padded(6, cells, a, out);
     put_text(b"  empty: no pattern remains\n", b, out)
 }

@@ -5,11 +5,11 @@ use Rattle.chart.proofs.PictureLaws.{size-put}
 use Rattle.chart.proofs.picture.put_size.Statement.{statement}
 use Rattle.chart.proofs.picture.put_size.Tie as tie
 
+breadth-requires : tie.Need-breadth-requires
+breadth-requires c κs = search needs
+
 beneath-requires : tie.Need-beneath-requires
 beneath-requires c κs = search needs
-
-beneath-requires-2 : tie.Need-beneath-requires-2
-beneath-requires-2 c κs = search needs
 
 slice-aggregate-put-text : tie.Need-slice-aggregate-put-text
 slice-aggregate-put-text c = search needs
@@ -36,15 +36,15 @@ same-length : tie.Need-same-length
 same-length c = search needs
 
 returns : tie.Need-returns
-returns c = size-put _ _ _ _ _ _ _ _ _ _ (c .before .before .before .before .before .before .before .before .before .before .before .before .before .before .before .before .before .before .before .before .before .before .before .beneath .ensures) (c .before .before .before .before .before .before .before .before .before .before .before .before .before .before .before .before .before .before .before .before .before .before .beneath2 .ensures)
+returns c = size-put _ _ _ _ _ _ _ _ _ _ (c .before .before .before .before .before .before .before .before .before .before .before .before .before .before .before .before .before .before .before .before .before .before .before .breadth .ensures) (c .before .before .before .before .before .before .before .before .before .before .before .before .before .before .before .before .before .before .before .before .before .before .beneath .ensures)
     (c .before .before .before .before .before .before .before .before .before .before .before .before .before .before .before .before .before .before .before .put-text .ensures) (c .before .before .before .before .before .before .before .before .before .before .before .before .before .before .before .put-decimal .ensures) (c .before .before .before .before .before .before .before .before .before .before .before .put-byte .ensures) (c .before .before .before .before .before .before .before .put-decimal2 .ensures) (c .before .before .put-text2 .ensures)
 
 pub put-size-spec : {M : Type 1} → statement M
 put-size-spec =
     tie.close
     (tie.spec
+    breadth-requires
     beneath-requires
-    beneath-requires-2
     slice-aggregate-put-text
     put-text-requires
     put-decimal-requires
