@@ -19,11 +19,13 @@ use Rattle.words.specs.Words.{howMany}
 use Rattle.order.specs.Numbers.{Number, Numbers}
 use Rattle.order.specs.Order.{beats}
 use Rattle.adjacency.specs.Weights.{weightSum, mask}
+use Rattle.logarithms.specs.Notes.{noteOf}
+use Rattle.logarithms.specs.declared.inner.Note.{Note}
 use Rattle.choice.specs.declared.observer.Best.{Best}
 use Rattle.choice.specs.declared.observer.Best.the-variants.{At, Empty}
 use Rattle.choice.specs.declared.inner.Observed.{Observed}
 use Rattle.choice.specs.declared.inner.Observed.the-variants.{Cell, Nothing}
-use Rattle.choice.specs.Observer.{Notes, notesIn, Lengths, valid, entropyAt, noiseAt, countsAt, join, candidate, bestIn, observedAs, observe}
+use Rattle.choice.specs.Observer.{Notes, notesIn, Lengths, valid, noteAt, entropyAt, countsAt, betterThan, join, candidate, bestIn, observedAs, observe}
 use Rattle.loops.proofs.TestLaws.{both}
 use Rattle.words.proofs.CountLaws.{many-none}
 use Rattle.order.proofs.OrderLaws.{lt-irreflexive}
@@ -58,18 +60,22 @@ valid-weight ws count w e =
 pub join-empty : (b : Best) → join b Empty ≡ b
 unfolding join
 join-empty Empty = refl
-join-empty (At c e n) = refl
+join-empty (At c n) = refl
 
 -- cell c of what the run keeps, held against the best so far
-module _ {cells c count : ℕ} {noise domains marks : List ℕ} {floats : List Float} {t : Bool} (weighted : ℕ) (best : Best)
-    (each : Lengths cells noise domains floats marks × (c < cells)) (is : count ≡ getD marks c 0) (test : t ≡ valid count (getD domains c 0) weighted) where
-  tested : countsAt (notesIn cells noise domains floats marks weighted) c ≡ t
-  tested = rw (getD-take cells marks c 0 (each .1), ← is) (sym test)
+module _ {cells c : ℕ} {noise domains marks : List ℕ} {floats : List Float} {n : Note} {t : Bool} (weighted : ℕ) (best : Best)
+    (each : Lengths cells noise domains floats marks × (c < cells)) (is : n ≡ noteOf noise cells c floats marks)
+    (test : t ≡ valid (n .count) (getD domains c 0) weighted) where
+  -- the note that is read is the observer's
+  of-cell : noteAt (notesIn cells noise domains floats marks weighted) c ≡ n
+  of-cell = rw (getD-take cells marks c 0 (each .1), getD-drop cells floats c nan) (sym is)
 
-  pub step-held : {r : Best} → t ≡ true → r ≡ join best (At c (getD floats (cells + c) nan) (getD noise c 0))
-      → r ≡ join best (candidate (notesIn cells noise domains floats marks weighted) c)
+  tested : countsAt (notesIn cells noise domains floats marks weighted) c ≡ t
+  tested = ap (λ m. valid (m .count) (getD domains c 0) weighted) of-cell ∙ sym test
+
+  pub step-held : {r : Best} → t ≡ true → r ≡ join best (At c n) → r ≡ join best (candidate (notesIn cells noise domains floats marks weighted) c)
   unfolding candidate
-  step-held e q = rw (tested ∙ e, getD-drop cells floats c nan) q
+  step-held e q = rw (tested ∙ e) (q ∙ ap (λ m. join best (At c m)) (sym of-cell))
 
   pub step-passed : t ≡ false → best ≡ join best (candidate (notesIn cells noise domains floats marks weighted) c)
   unfolding candidate
@@ -87,7 +93,7 @@ module _ (v : Notes) (start : ℕ) where
       let b : start + (c - start) ≡ c = omega arith in
       rw (a, b, ← e) q
 
--- the best of all cells is told without its noise word
+-- the best of all cells is told by its entropy alone
 pub scan-observed : {cells : ℕ} {noise domains marks : List ℕ} {floats : List Float} (weighted : ℕ) {best b : Best} → Lengths cells noise domains floats marks
     → best ≡ bestIn (notesIn cells noise domains floats marks weighted) 0 (cells - 0) → best ≡ b → observedAs b ≡ observe (notesIn cells noise domains floats marks weighted)
 unfolding observe
@@ -97,7 +103,7 @@ scan-observed {cells} weighted each q is = rw (each .words, ← is) (ap observed
 
 -- cell c comes before cell d: by entropy and then by noise word
 abbrev pub ahead : Notes → ℕ → ℕ → Bool
-ahead v c d = beats (entropyAt v c) (noiseAt v c) (entropyAt v d) (noiseAt v d)
+ahead v c d = betterThan (noteAt v c) (noteAt v d)
 
 -- cell j gives way to cell c: where its note counts it is not ahead of c, and c is ahead of it if j is the lower cell
 abbrev pub Yields : Notes → ℕ → ℕ → Type 0
@@ -124,15 +130,17 @@ record Picked (v : Notes) (k c : ℕ) : Type 0 where
   counts : countsAt v c ≡ true
   least : Ordered v → (j : ℕ) → j < k → Yields v c j
 
--- the best of the first k cells: nothing where no note counts, or a cell with its own entropy and noise word
+-- the best of the first k cells: nothing where no note counts, or a cell with its own note
 abbrev Scanned : Notes → ℕ → Best → Type 0
 Scanned v k Empty = (j : ℕ) → j < k → countsAt v j ≡ false
-Scanned v k (At c e n) = (e ≡ entropyAt v c) × (n ≡ noiseAt v c) × Picked v k c
+Scanned v k (At c n) = (n ≡ noteAt v c) × Picked v k c
 
 -- nothing is ahead of itself, the NaN too
 ahead-itself : (v : Notes) (c : ℕ) → ahead v c c ≡ false
 unfolding beats
-ahead-itself v c = rw (lt-irreflexive (entropyAt v c), le-ltb (noiseAt v c) (noiseAt v c) (le-refl (noiseAt v c))) (and-false (eq (entropyAt v c) (entropyAt v c)))
+ahead-itself v c =
+    let noise = noteAt v c .noise in
+    rw (lt-irreflexive (entropyAt v c), le-ltb noise noise (le-refl noise)) (and-false (eq (entropyAt v c) (entropyAt v c)))
 
 module _ (v : Notes) (k : ℕ) where
   -- one cell more, after the first k
@@ -163,16 +171,16 @@ module _ (v : Notes) (k : ℕ) where
     picked-kept : {c : ℕ} → ahead v k c ≡ false → Picked v k c → Picked v (suc k) c
     picked-kept {c} t p = record { inside = omega (arith, p .inside); counts = p .counts; least = λ o. yields-more c (p .least o) (λ h. (t, λ l. absurd (omega (arith, p .inside)))) }
 
-  scanned-more : (b : Best) → Scanned v k b → (t : Bool) → countsAt v k ≡ t → Scanned v (suc k) (join b (cond t (At k (entropyAt v k) (noiseAt v k)) Empty))
+  scanned-more : (b : Best) → Scanned v k b → (t : Bool) → countsAt v k ≡ t → Scanned v (suc k) (join b (cond t (At k (noteAt v k)) Empty))
   unfolding join
-  scanned-more Empty s true e = (refl, refl, picked-first e s)
+  scanned-more Empty s true e = (refl, picked-first e s)
   scanned-more Empty s false e = λ j l. below-more (λ j. countsAt v j ≡ false) k s e j (omega arith)
-  scanned-more (At c x n) (ex, en, p) true e = rw (ex, en) (go (ahead v k c) refl)
+  scanned-more (At c n) (en, p) true e = rw en (go (ahead v k c) refl)
     where
-      go : (t : Bool) → ahead v k c ≡ t → Scanned v (suc k) (cond t (At k (entropyAt v k) (noiseAt v k)) (At c (entropyAt v c) (noiseAt v c)))
-      go true t = (refl, refl, picked-better e t p)
-      go false t = (refl, refl, picked-kept e t p)
-  scanned-more (At c x n) (ex, en, p) false e = (ex, en, picked-passed e p)
+      go : (t : Bool) → ahead v k c ≡ t → Scanned v (suc k) (cond t (At k (noteAt v k)) (At c (noteAt v c)))
+      go true t = (refl, picked-better e t p)
+      go false t = (refl, picked-kept e t p)
+  scanned-more (At c n) (en, p) false e = (en, picked-passed e p)
 
 scanned : (v : Notes) (k : ℕ) → Scanned v k (bestIn v 0 k)
 unfolding bestIn candidate
@@ -199,14 +207,14 @@ module _ (v : Notes) where
     where
       go : (b : Best) → Scanned v (length (v .domains)) b → observedAs b ≡ Nothing
       go Empty s = refl
-      go (At c x n) (ex, en, p) = absurd (true≢false (sym (p .counts) ∙ none c (p .inside)))
+      go (At c n) (en, p) = absurd (true≢false (sym (p .counts) ∙ none c (p .inside)))
 
   pub nothing-counts : observe v ≡ Nothing → (j : ℕ) → j < length (v .domains) → countsAt v j ≡ false
   nothing-counts = by-best (λ o. o ≡ Nothing → (j : ℕ) → j < length (v .domains) → countsAt v j ≡ false) go
     where
       go : (b : Best) → Scanned v (length (v .domains)) b → observedAs b ≡ Nothing → (j : ℕ) → j < length (v .domains) → countsAt v j ≡ false
       go Empty s e = s
-      go (At c x n) s e = let z : _≡_ {A = ℕ} 0 1 = cc in absurd (omega arith)
+      go (At c n) s e = let z : _≡_ {A = ℕ} 0 1 = cc in absurd (omega arith)
 
   module _ {c : ℕ} {e : Float} (is : observe v ≡ Cell c e) where
     found : (e ≡ entropyAt v c) × Picked v (length (v .domains)) c
@@ -214,7 +222,7 @@ module _ (v : Notes) where
       where
         go : (b : Best) → Scanned v (length (v .domains)) b → observedAs b ≡ Cell c e → (e ≡ entropyAt v c) × Picked v (length (v .domains)) c
         go Empty s q = let z : _≡_ {A = ℕ} 0 1 = cc in absurd (omega arith)
-        go (At d x n) (ex, en, p) q = let a : d ≡ c = cc in let b : x ≡ e = cc in rw (← a, ← b) (ex, p)
+        go (At d n) (en, p) q = let a : d ≡ c = cc in let b : n .entropy ≡ e = cc in rw (← a, ← b) (ap (λ m. m .entropy) en, p)
 
     pub observed-seen : Seen v c e
     observed-seen = record { inside = found .1 .inside; counts = found .1 .counts; entropy = found .0 }
@@ -240,4 +248,4 @@ module _ (v : Notes) where
 
       go : (b : Best) → Scanned v (length (v .domains)) b → observedAs b ≡ Cell c (entropyAt v c)
       go Empty s = absurd (true≢false (sym h ∙ s c l))
-      go (At d x n) (ex, en, p) = rw (ex, same d p)
+      go (At d n) (en, p) = rw (en, same d p)

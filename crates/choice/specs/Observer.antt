@@ -11,6 +11,8 @@ use lib.Ieee.{Float, nan}
 use lib.ListN.{length, getD, take, drop}
 use Rattle.order.specs.Order.{beats}
 use Rattle.words.specs.Words.{howMany}
+use Rattle.logarithms.specs.Notes.{note}
+use Rattle.logarithms.specs.declared.inner.Note.{Note}
 use Rattle.choice.specs.declared.observer.Best.{Best}
 use Rattle.choice.specs.declared.observer.Best.the-variants.{At, Empty}
 use Rattle.choice.specs.declared.inner.Observed.{Observed}
@@ -44,27 +46,31 @@ unfoldable pub valid : ℕ → ℕ → ℕ → Bool
 unfolding howMany
 valid count w mask = not (eqb count 0) && (eqb (howMany 64 (bitAnd w mask)) count && leb 2 (howMany 64 w))
 
--- of cell c: its entropy, its noise word, and whether its note counts
-abbrev pub entropyAt : Notes → ℕ → Float
-entropyAt v c = getD (v .entropies) c nan
+-- of cell c: its note, the note's entropy, and whether the note counts
+abbrev pub noteAt : Notes → ℕ → Note
+noteAt v c = note (getD (v .entropies) c nan) (getD (v .noises) c 0) (getD (v .counts) c 0)
 
-abbrev pub noiseAt : Notes → ℕ → ℕ
-noiseAt v c = getD (v .noises) c 0
+abbrev pub entropyAt : Notes → ℕ → Float
+entropyAt v c = noteAt v c .entropy
 
 abbrev pub countsAt : Notes → ℕ → Bool
-countsAt v c = valid (getD (v .counts) c 0) (getD (v .domains) c 0) (v .mask)
+countsAt v c = valid (noteAt v c .count) (getD (v .domains) c 0) (v .mask)
 
--- of two cells the later one wins only where it is better
+-- a note is better than another by its entropy, and then by its noise word
+abbrev pub betterThan : Note → Note → Bool
+betterThan n m = beats (n .entropy) (n .noise) (m .entropy) (m .noise)
+
+-- of two cells the later one wins only where its note is better
 unfoldable pub join : Best → Best → Best
 unfolding beats
 join Empty b = b
-join (At c e n) Empty = At c e n
-join (At c e n) (At d f m) = cond (beats f m e n) (At d f m) (At c e n)
+join (At c n) Empty = At c n
+join (At c n) (At d m) = cond (betterThan m n) (At d m) (At c n)
 
 -- a cell, where its note counts
 unfoldable pub candidate : Notes → ℕ → Best
 unfolding valid
-candidate v c = cond (countsAt v c) (At c (entropyAt v c) (noiseAt v c)) Empty
+candidate v c = cond (countsAt v c) (At c (noteAt v c)) Empty
 
 -- the best of k cells from `start` on, taken one by one
 unfoldable pub bestIn : Notes → ℕ → ℕ → Best
@@ -74,7 +80,7 @@ bestIn v start (suc k) = join (bestIn v start k) (candidate v (start + k))
 
 abbrev pub observedAs : Best → Observed
 observedAs Empty = Nothing
-observedAs (At c e n) = Cell c e
+observedAs (At c n) = Cell c (n .entropy)
 
 -- the cell to observe and its entropy, or nothing
 unfoldable pub observe : Notes → Observed

@@ -27,7 +27,7 @@ pub fn observe(
     ensures { λ r. ⌜ r ≡ observe (notesIn cells (now (noise .entry)) (now (domains .entry)) (now (floats .entry)) (now (marks .entry)) weighted) ⌝ }
 {
     match observer::scan(cells, noise, domains, floats, marks, weighted, 0, cells) {
-        Best::At(cell, entropy, _) => Observed::Cell(cell, entropy),
+        Best::At(cell, note) => Observed::Cell(cell, note.entropy),
         Best::Empty => Observed::Nothing,
     }
 }

@@ -4,48 +4,43 @@
 ghost use mathlib.Core.Path.{_≡_};
 ghost use Prim.Native.Nat.{_-_, _≤_, _<_};
 ghost use Rattle.choice.specs.Observer.{Lengths, notesIn, valid, join, candidate, bestIn};
+use logarithms::inner::Note;
 
-// The best cell so far, with its entropy and its noise word.
+// The best cell so far, with its note.
 pub(crate) enum Best {
-    At(usize, f32, u32),
+    At(usize, Note),
     Empty,
 }
 
-fn wide(x: u8) -> usize
-    ensures { λ r. ⌜ r ≡ x ⌝ }
-{
-    x as usize
-}
-
 // Whether a note counts. A count of 0 is no note, and is passed before any ones are counted.
-fn valid(count: usize, word: u64, weighted: u64) -> bool
-    ensures { λ r. ⌜ r ≡ valid count word weighted ⌝ }
+fn valid(note: Note, word: u64, weighted: u64) -> bool
+    ensures { λ r. ⌜ r ≡ valid (note .count) word weighted ⌝ }
 {
-    if count == 0 {
+    if note.count == 0 {
         return false;
     }
-    if words::inner::count_ones(words::inner::shared(word, weighted)) != count {
+    if words::inner::count_ones(words::inner::shared(word, weighted)) != note.count as usize {
         return false;
     }
     2 <= words::inner::count_ones(word)
 }
 
 // The better of the best so far and a cell that comes after it: the least entropy, then the least noise word, then the earlier cell.
-fn better(best: Best, cell: usize, entropy: f32, noise: u32) -> Best
-    ensures { λ r. ⌜ r ≡ join best (Best.At cell entropy noise) ⌝ }
+fn better(best: Best, cell: usize, note: Note) -> Best
+    ensures { λ r. ⌜ r ≡ join best (Best.At cell note) ⌝ }
 {
     match best {
-        Best::Empty => Best::At(cell, entropy, noise),
-        Best::At(c, e, n) => {
-            if entropy < e {
-                return Best::At(cell, entropy, noise);
+        Best::Empty => Best::At(cell, note),
+        Best::At(c, n) => {
+            if note.entropy < n.entropy {
+                return Best::At(cell, note);
             }
-            if entropy == e {
-                if noise < n {
-                    return Best::At(cell, entropy, noise);
+            if note.entropy == n.entropy {
+                if note.noise < n.noise {
+                    return Best::At(cell, note);
                 }
             }
-            Best::At(c, e, n)
+            Best::At(c, n)
         }
     }
 }
@@ -64,8 +59,9 @@ fn step(
     requires { ⌜ Lengths cells (now noise) (now domains) (now floats) (now marks) × (c < cells) ⌝ }
     ensures { λ r. ⌜ r ≡ join best (candidate (notesIn cells (now (noise .entry)) (now (domains .entry)) (now (floats .entry)) (now (marks .entry)) weighted) c) ⌝ }
 {
-    if valid(wide(marks[c]), domains[c], weighted) {
-        return better(best, c, floats[cells + c], noise[c]);
+    let note = Note::of_cell(noise, cells, c, floats, marks);
+    if valid(note, domains[c], weighted) {
+        return better(best, c, note);
     }
     best
 }

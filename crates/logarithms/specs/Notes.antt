@@ -1,13 +1,19 @@
 -- What is noted of a cell: an entropy, a noise word and a weighted count. Follows docs/RULES.md, "Run".
 -- Assumes nothing.
 use mathlib.Core.Bool.{cond}
-use Prim.Native.Nat.{ℕ}
-use lib.Ieee.{Float, lt}
+use mathlib.Core.List.{List}
+use Prim.Native.Nat.{ℕ, _+_}
+use lib.Ieee.{Float, nan, lt}
+use lib.ListN.{getD}
 use Rattle.logarithms.specs.declared.inner.Note.{Note}
 
 -- the note of an entropy, a noise word and a weighted count
 abbrev pub note : Float → ℕ → ℕ → Note
 note entropy noise count = record { entropy = entropy; noise = noise; count = count }
+
+-- the note of cell c as it is kept: entropies after the cells' running values, and counts, 0 where there is no note, before any other marks
+abbrev pub noteOf : List ℕ → ℕ → ℕ → List Float → List ℕ → Note
+noteOf noise cells c floats marks = note (getD floats (cells + c) nan) (getD noise c 0) (getD marks c 0)
 
 -- a later entropy, with its count, replaces the noted one only if strictly less
 unfoldable pub lowered : Note → Float → ℕ → Note

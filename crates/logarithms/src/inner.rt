@@ -1,11 +1,12 @@
 // Logarithms, entropy and notes, for the crates above.
 ghost use mathlib.Core.Path.{_≡_};
-ghost use Prim.Native.Nat.{_≤_};
+ghost use Prim.Native.Nat.{_+_, _≤_, _<_};
+ghost use lib.ListN.{length};
 ghost use Rattle.adjacency.specs.Weights.{Bounded, wholeWeight};
 ghost use Rattle.refusals.specs.Refusals.{numberOf};
 ghost use Rattle.logarithms.specs.Logs.{logOf};
 ghost use Rattle.logarithms.specs.Entropy.{wLogW, plus, minus, running, less, entropy};
-ghost use Rattle.logarithms.specs.Notes.{lowered};
+ghost use Rattle.logarithms.specs.Notes.{noteOf, lowered};
 ghost use Rattle.logarithms.specs.Asked.{domainRefusal};
 use crate::table::LOGS;
 use refusals::Refusal;
@@ -121,7 +122,25 @@ pub struct Note {
     pub count: u32,
 }
 
+fn wide(x: u8) -> u32
+    ensures { λ r. ⌜ r ≡ x ⌝ }
+{
+    x as u32
+}
+
 impl Note {
+    // The note of a cell, from the noise words and what is kept beside the domains.
+    pub fn of_cell(noise: &[u32], cells: usize, cell: usize, floats: &[f32], marks: &[u8]) -> Note
+        requires { ⌜ (cell < length (now noise)) × (cells + cell < length (now floats)) × (cell < length (now marks)) ⌝ }
+        ensures { λ r. ⌜ r ≡ noteOf (now (noise .entry)) cells cell (now (floats .entry)) (now (marks .entry)) ⌝ }
+    {
+        Note {
+            entropy: floats[cells + cell],
+            noise: noise[cell],
+            count: wide(marks[cell]),
+        }
+    }
+
     // The note after a later entropy with its count, which replace the noted ones only if the entropy is strictly less.
     pub fn lowered(self, entropy: f32, count: u32) -> Note
         ensures { λ r. ⌜ r ≡ lowered self entropy count ⌝ }

@@ -18,9 +18,9 @@ use borrow.Author.Tests.{le-leb, leb-true}
 use Rattle.words.specs.Words.{howMany}
 use Rattle.adjacency.specs.Weights.{Weighed, weightOf, weightSum, weighted, mask}
 use Rattle.logarithms.specs.Entropy.{minus, entropy}
-use Rattle.logarithms.specs.Notes.{note, lowered}
+use Rattle.logarithms.specs.Notes.{note, noteOf, lowered}
 use Rattle.logarithms.specs.declared.inner.Note.{Note}
-use Rattle.propagation.specs.Beside.{Beside, beside, weightedIn, lessenedBy, proposes, proposed, noted, proposing, unmarked}
+use Rattle.propagation.specs.Beside.{Beside, beside, weightedIn, lessenedBy, proposes, proposed, written, noted, proposing, unmarked}
 use Rattle.loops.proofs.TestLaws.{both}
 use Rattle.words.proofs.CountLaws.{many-width, many-none}
 use Rattle.adjacency.proofs.WeightLaws.{true-weighted, false-weighted, zero-weightSum}
@@ -92,11 +92,10 @@ proposed-byte (suc fresh) old e m k h l = rw k (go (lt e (old .entropy)))
     go true = l
     go false = h
 
-pub noted-is : (noise : List ℕ) (cells c m : ℕ) (e : Float) (floats : List Float) (marks : List ℕ) {old : ℕ} {n : Note} → old ≡ getD marks c 0
-    → n ≡ proposed (getD marks (cells + c) 0) (note (getD floats (cells + c) nan) (getD noise c 0) old) e m
-    → beside (set floats (cells + c) (n .entropy)) (set (set marks c (n .count)) (cells + c) 1) ≡ noted noise cells c e m (beside floats marks)
+pub written-noted : (noise : List ℕ) (cells c m : ℕ) (e : Float) (floats : List Float) (marks : List ℕ) {old n : Note} {x : Beside} → old ≡ noteOf noise cells c floats marks
+    → n ≡ proposed (getD marks (cells + c) 0) old e m → x ≡ written cells c n (beside floats marks) → x ≡ noted noise cells c e m (beside floats marks)
 unfolding noted
-noted-is noise cells c m e floats marks k i = rw (i, k)
+written-noted noise cells c m e floats marks k i w = rw (w, i, k)
 
 module _ (ws noise : List ℕ) (cells c p w : ℕ) {b : Bool} (k : b ≡ proposes ws p w) (floats : List Float) (marks : List ℕ) where
   pub proposing-some : b ≡ true → {sum m : ℕ} {e : Float} {x : Beside} → sum ≡ weightSum ws w → e ≡ entropy sum (getD floats c nan) → m ≡ weightedIn ws w

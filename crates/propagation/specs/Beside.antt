@@ -10,7 +10,7 @@ use lib.ListN.{length, getD, set, take, replicate}
 use Rattle.words.specs.Words.{howMany}
 use Rattle.adjacency.specs.Weights.{weightOf, weightSum, weighted, mask}
 use Rattle.logarithms.specs.Entropy.{minus, entropy}
-use Rattle.logarithms.specs.Notes.{note, lowered}
+use Rattle.logarithms.specs.Notes.{note, noteOf, lowered}
 use Rattle.logarithms.specs.declared.inner.Note.{Note}
 use Rattle.consistency.specs.Worklist.{Removal}
 
@@ -51,21 +51,20 @@ unfolding lowered
 proposed zero old entropy count = note entropy (old .noise) count
 proposed (suc fresh) old entropy count = lowered old entropy count
 
+-- a cell's note is written, and that the cell was noted in this propagation
+unfoldable pub written : ℕ → ℕ → Note → Beside → Beside
+written cells c n x = beside (set (x .floats) (cells + c) (n .entropy)) (set (set (x .marks) c (n .count)) (cells + c) 1)
+
 -- over the noise words and the number of cells
 module _ (noise : List ℕ) (cells : ℕ) where
-  -- the note of a cell
-  abbrev pub noteOf : ℕ → Beside → Note
-  noteOf c x = note (getD (x .floats) (cells + c) nan) (getD noise c 0) (getD (x .marks) c 0)
-
   -- a cell's note after a proposal of an entropy with its weighted count
   abbrev pub noteAfter : ℕ → Float → ℕ → Beside → Note
-  noteAfter c entropy count x = proposed (getD (x .marks) (cells + c) 0) (noteOf c x) entropy count
+  noteAfter c entropy count x = proposed (getD (x .marks) (cells + c) 0) (noteOf noise cells c (x .floats) (x .marks)) entropy count
 
-  -- that note is written, and that the cell was noted in this propagation
+  -- that note is written
   unfoldable pub noted : ℕ → Float → ℕ → Beside → Beside
-  unfolding proposed
-  noted c entropy count x =
-      beside (set (x .floats) (cells + c) (noteAfter c entropy count x .entropy)) (set (set (x .marks) c (noteAfter c entropy count x .count)) (cells + c) 1)
+  unfolding proposed written
+  noted c entropy count x = written cells c (noteAfter c entropy count x) x
 
 -- over the weights, the noise words and the number of cells
 module _ (weights noise : List ℕ) (cells : ℕ) where

@@ -2,7 +2,7 @@
 // Follows docs/RULES.md, "Propagation" and "Entropy".
 ghost use mathlib.Core.List.{List};
 ghost use mathlib.Core.Path.{_≡_};
-ghost use Prim.Native.Nat.{ℕ, _^_, _≤_, _<_};
+ghost use Prim.Native.Nat.{ℕ, _+_, _^_, _≤_, _<_};
 ghost use lib.Ieee.{Float};
 ghost use lib.ListN.{length};
 ghost use Rattle.adjacency.specs.Weights.{Weighed, mask};
@@ -36,12 +36,6 @@ fn proposes(count: usize, weights: &[u32], weighted: u64, pattern: usize, word: 
     2 <= words::inner::count_ones(word)
 }
 
-fn wide(x: u8) -> u32
-    ensures { λ r. ⌜ r ≡ x ⌝ }
-{
-    x as u32
-}
-
 // A cell's first proposal in a propagation replaces its note; a later one only lowers it.
 fn proposed(fresh: u8, old: Note, entropy: f32, count: u32) -> Note
     ensures { λ r. ⌜ r ≡ meaning.proposed fresh old entropy count ⌝ }
@@ -54,6 +48,16 @@ fn proposed(fresh: u8, old: Note, entropy: f32, count: u32) -> Note
         };
     }
     old.lowered(entropy, count)
+}
+
+// A cell's note is written, and that the cell was noted in this propagation.
+fn write(note: Note, cells: usize, cell: usize, floats: &mut [f32], marks: &mut [u8])
+    requires { ⌜ (note .count < 256) × (cells + cell < length (now floats)) × (cells + cell < length (now marks)) ⌝ }
+    ensures { λ _. ⌜ beside (now (floats .exit)) (now (marks .exit)) ≡ meaning.written cells cell note (beside (now (floats .entry)) (now (marks .entry))) ⌝ }
+{
+    floats[cells + cell] = note.entropy;
+    marks[cell] = note.count as u8;
+    marks[cells + cell] = 1;
 }
 
 // A cell's proposal of an entropy with its weighted count.
@@ -70,15 +74,9 @@ fn note(
     ensures { λ _. ⌜ beside (now (floats .exit)) (now (marks .exit))
         ≡ meaning.noted (now (noise .entry)) cells cell entropy weighted (beside (now (floats .entry)) (now (marks .entry))) ⌝ }
 {
-    let old = Note {
-        entropy: floats[cells + cell],
-        noise: noise[cell],
-        count: wide(marks[cell]),
-    };
+    let old = Note::of_cell(noise, cells, cell, floats, marks);
     let new = proposed(marks[cells + cell], old, entropy, weighted);
-    floats[cells + cell] = new.entropy;
-    marks[cell] = new.count as u8;
-    marks[cells + cell] = 1;
+    write(new, cells, cell, floats, marks);
 }
 
 // A removal's proposal, where it makes one.

@@ -1,4 +1,4 @@
--- `run::inner::choose` meets its contract: at each turn what is left takes what the whole takes, and the word that is left falls.
+-- `choice::inner::choose` meets its contract: at each turn what is left takes what the whole takes, and the word that is left falls.
 -- Assumes nothing.
 use mathlib.Core.Path.{_≡_}
 use Prim.Native.Nat.{_<_}

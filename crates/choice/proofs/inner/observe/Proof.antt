@@ -1,4 +1,4 @@
--- `run::inner::observe` meets its contract: the best of all cells is told without its noise word.
+-- `choice::inner::observe` meets its contract: the best of all cells is told by its entropy alone.
 -- Assumes nothing.
 use borrow.Author.Needs.{needs}
 use Rattle.choice.proofs.ObserverLaws.{scan-observed}

@@ -1,4 +1,4 @@
--- `run::observer::scan` meets its contract: after each turn the best is that of the cells passed.
+-- `choice::observer::scan` meets its contract: after each turn the best is that of the cells passed.
 -- Assumes nothing.
 use mathlib.Core.Path.{_≡_}
 use Prim.Native.Nat.{_-_, _≤_}
