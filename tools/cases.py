@@ -1,77 +1,107 @@
 #!/usr/bin/env python3
-"""Writes the inputs and the expected outputs of the programs that replay the recorded answers of vectors/.
+"""Writes crates/recorded/stdin and stdout from vectors/: the calls that were recorded, and what must be printed of each.
 
-Run from the repository's root. For each case the input has, little-endian: a u32 length and the sheet's bytes, a u32 count and that many
-u32 noise words, a u32 count and that many u32 words. crates/trace/stdin holds the cases with recorded choices, crates/trace/stdout what must
-be printed of each: its end and words used, its domains, and every choice's cell, entropy and pattern."""
-from os import makedirs
+Run from the repository's root. What the stream is, crates/recorded/src/main.rt says. Every answer is as recorded, but for what is left of
+starting domains where propagation is not refused: the greatest consistent subset, computed here from its definition."""
 from struct import pack
+
+RUN, REFUSAL, PROPAGATE, LOOKUP = range(4)
 
 
 def blocks(name):
-    """The cases of a file, each a list of (word, rest of the line)."""
-    case = []
-    for line in open(f"vectors/{name}.txt"):
-        line = line.rstrip("\n")
-        if line.startswith("#"):
+    """The cases of a file, each its lines by their first word, with every choice in order."""
+    case = {}
+    for line in [*open(f"vectors/{name}.txt"), "\n"]:
+        word, _, rest = line.rstrip("\n").partition(" ")
+        if word == "#":
             continue
-        if line:
-            word, _, rest = line.partition(" ")
-            case.append((word, rest))
+        if word == "choice":
+            case.setdefault("choices", []).append(rest)
+        elif word:
+            case[word] = rest
         elif case:
             yield case
-            case = []
-    if case:
-        yield case
+            case = {}
 
 
 def numbers(case, word):
-    return [int(n) for w, rest in case if w == word for n in rest.split()]
+    """The numbers of a line. `* N RECORD LAST` is N times a record and then another once."""
+    entries = case.get(word, "").split()
+    if entries[:1] == ["*"]:
+        half = (len(entries) - 2) // 2
+        entries = entries[2:2 + half] * int(entries[1]) + entries[2 + half:]
+    return [int(n) for n in entries]
 
 
-def record(kind, payload):
-    return pack("<IH", len(payload) + 2, kind) + payload
-
-
-def sheet(case):
-    """The bytes of a case's sheet: kinds 1 to 4."""
+def stream(call, case):
+    """The bytes of a call. Memory has its published length but where the case says otherwise."""
     (count,) = numbers(case, "patterns")
-    offsets, ids, forbids = numbers(case, "offsets"), numbers(case, "ids"), numbers(case, "forbids")
-    lists = b"".join(bytes([b - a]) + bytes(ids[a:b]) for a, b in zip(offsets, offsets[1:]))
-    asked = [forbids[i:i + 3] for i in range(0, len(forbids), 3)]
-    return (record(1, pack(f"<H{count}H", count, *numbers(case, "weights")))
-            + record(2, lists)
-            + record(3, pack("<3H", *numbers(case, "grid")))
-            + record(4, b"".join(pack("<3H", c, p, int(k != 0)) for c, p, k in asked)))
+    width, height, mode = numbers(case, "grid") or [0, 0, 0]
+    pattern, direction = numbers(case, "ask") or [0, 0]
+    cells = width * height
+    words = ["weights", "offsets", "noise", "words", "forbids"]
+    slices = [numbers(case, word) for word in words]
+    start = numbers(case, "domains") if call == PROPAGATE else []
+    slices.append([half for word in start for half in (word % 2 ** 32, word >> 32)])
+    lent = len(start) if call == PROPAGATE else int(case.get("outputs", cells))
+    more = int(case.get("work", 0))
+    work = [4 * cells * count + more, cells * count + more, 2 * cells + more, 2 * cells + more]
+    head = [call, count, width, height, mode, pattern, direction, *map(len, slices), lent, *work]
+    ids = numbers(case, "ids")
+    return b"".join(pack(f"<{len(ns)}I", *ns) for ns in [head, *slices, [len(ids)]]) + bytes(ids)
 
 
-def counted(words):
-    return pack(f"<I{len(words)}I", len(words), *words)
+def neighbours(case):
+    """For each cell, its neighbour in each direction or None."""
+    width, height, mode = numbers(case, "grid")
+    for cell in range(width * height):
+        near = []
+        for dx, dy in (0, -1), (1, 0), (0, 1), (-1, 0):
+            x, y = cell % width + dx, cell // width + dy
+            inside = (mode & 1 or 0 <= x < width) and (mode & 2 or 0 <= y < height)
+            near.append(y % height * width + x % width if inside else None)
+        yield near
 
 
-def stream(case):
-    body = sheet(case)
-    return pack("<I", len(body)) + body + counted(numbers(case, "noise")) + counted(numbers(case, "words"))
+def remaining(case):
+    """The greatest consistent subset of the starting domains, zero where a cell is left empty."""
+    offsets, ids, near = numbers(case, "offsets"), numbers(case, "ids"), list(neighbours(case))
+    left = [{p for p in range(64) if word >> p & 1} for word in numbers(case, "domains")]
+
+    def supported(c, p):
+        return all(n is None or left[n] & set(ids[offsets[4 * p + d]:offsets[4 * p + d + 1]]) for d, n in enumerate(near[c]))
+
+    gone = True
+    while gone:
+        gone = [(c, p) for c in range(len(left)) for p in left[c] if not supported(c, p)]
+        for c, p in gone:
+            left[c].discard(p)
+    return [sum(1 << p for p in ps) if all(left) else 0 for ps in left]
 
 
-def told(case):
-    """What is printed of a case: the lines that were recorded."""
-    return "".join(f"{word} {rest}\n" for word, rest in case if word in ("end", "domains", "choice"))
+def line(word, entries):
+    return " ".join([word, *map(str, entries)]) + "\n"
 
 
-def write(path, data):
-    makedirs(path.rpartition("/")[0], exist_ok=True)
-    open(path, "wb").write(data)
+def told(call, case):
+    """What is printed of a call."""
+    if call == RUN:
+        return line("end", case["end"].split()) + line("domains", case["domains"].split()) + "".join(f"choice {c}\n" for c in case.get("choices", []))
+    refused = line("refused", [case["refused"]])
+    if call == PROPAGATE:
+        return refused + line("domains", remaining(case) if case["refused"] == "0" else numbers(case, "domains"))
+    if call == LOOKUP:
+        return line("part", case["part"].split()) + refused
+    return refused
 
 
 def main():
-    cases = [case for name in ("runs", "large", "rules_only") for case in blocks(name)]
-    write("crates/trace/stdin", b"".join(map(stream, cases)))
-    write("crates/trace/stdout", "".join(map(told, cases)).encode())
-    for case in blocks("sheets"):
-        if sheet(case).hex() != dict(case)["sheet"]:
-            raise SystemExit(f"the sheet of {dict(case)['case']} is not as recorded")
-    print(f"{len(cases)} cases to trace")
+    calls = [(RUN, case) for name in ("runs", "large", "rules_only") for case in blocks(name)]
+    kinds = {"run": REFUSAL, "propagate": PROPAGATE, "lookup": LOOKUP}
+    calls += [(kinds[case["call"]], case) for case in blocks("refusals") if case["call"] in kinds]
+    open("crates/recorded/stdin", "wb").write(b"".join(stream(*call) for call in calls))
+    open("crates/recorded/stdout", "w").write("".join(told(*call) for call in calls))
+    print(f"{len(calls)} calls")
 
 
 main()
