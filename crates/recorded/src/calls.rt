@@ -1,21 +1,29 @@
-// Calls: a call is read, made and told.
-ghost use Prim.Native.Nat.{_≤_};
+// Calls: a call is read, made and told. Lent memory starts full of sevens, since its old content is ignored.
+ghost use Prim.Native.Nat.{_≤_, _<_};
 use crate::input;
-use crate::input::Came;
+use crate::input::Next;
 use crate::print;
-use libc::STDIN_FILENO;
 use propagation::Propagated;
 use run::Answer;
+
+fn wide(x: u32) -> usize
+    ensures { λ r. ⌜ r < 4294967296 ⌝ }
+{
+    x as usize
+}
 
 // A length that is asked for, at most what there is.
 fn within(asked: u32, most: usize) -> usize
     ensures { λ r. ⌜ r ≤ most ⌝ }
 {
-    if (asked as usize) < most {
-        return asked as usize;
+    let n = wide(asked);
+    if n < most {
+        return n;
     }
     most
 }
+
+// ---- a run
 
 // What a run tells: a refusal's number, or 0 with the end and the words used.
 struct Told {
@@ -24,7 +32,7 @@ struct Told {
     used: usize,
 }
 
-fn told(answer: Answer) -> Told {
+fn told_of(answer: Answer) -> Told {
     match answer {
         Answer::Decided(used) => Told {
             refused: 0,
@@ -54,37 +62,38 @@ fn told(answer: Answer) -> Told {
     }
 }
 
-// The run itself. Lent work memory is full of sevens, since its old content is ignored.
+// The run, on memory of the lengths that the call asks for.
 fn solve(
-    head: &[u32; 18],
+    head: &[u32; 17],
     forbids: &[u32],
     weights: &[u32],
     offsets: &[u32],
     ids: &[u8],
     noise: &[u32],
     words: &[u32],
-    domains: &mut [u64],
+    domains: &mut [u64; 1025],
+    counts: &mut [u8; 262145],
+    pending: &mut [u32; 65537],
+    floats: &mut [f32; 2049],
+    marks: &mut [u8; 2049],
 ) -> Told {
-    let mut counts = [7u8; 262145];
-    let mut pending = [7u32; 65537];
-    let mut floats = [7.0f32; 2049];
-    let mut marks = [7u8; 2049];
-    let c = within(head[14], 262145);
-    let p = within(head[15], 65537);
-    let f = within(head[16], 2049);
-    let m = within(head[17], 2049);
-    told(run::run_numbers(
+    let d = within(head[12], 1025);
+    let c = within(head[13], 262145);
+    let p = within(head[14], 65537);
+    let f = within(head[15], 2049);
+    let m = within(head[16], 2049);
+    told_of(run::run_numbers(
         forbids,
-        head[1] as usize,
-        head[2] as usize,
-        head[3] as usize,
-        head[4] as usize,
+        wide(head[0]),
+        wide(head[1]),
+        wide(head[2]),
+        wide(head[3]),
         weights,
         offsets,
         ids,
         noise,
         words,
-        domains,
+        &mut domains[..d],
         &mut counts[..c],
         &mut pending[..p],
         &mut floats[..f],
@@ -92,37 +101,38 @@ fn solve(
     ))
 }
 
-// The choices of that run, into domains of their own.
+// The choices of that run.
 fn choose(
-    head: &[u32; 18],
+    head: &[u32; 17],
     forbids: &[u32],
     weights: &[u32],
     offsets: &[u32],
     ids: &[u8],
     noise: &[u32],
     words: &[u32],
-    domains: &mut [u64],
+    domains: &mut [u64; 1025],
+    counts: &mut [u8; 262145],
+    pending: &mut [u32; 65537],
+    floats: &mut [f32; 2049],
+    marks: &mut [u8; 2049],
 ) -> u32 {
-    let mut counts = [7u8; 262145];
-    let mut pending = [7u32; 65537];
-    let mut floats = [7.0f32; 2049];
-    let mut marks = [7u8; 2049];
-    let c = within(head[14], 262145);
-    let p = within(head[15], 65537);
-    let f = within(head[16], 2049);
-    let m = within(head[17], 2049);
+    let d = within(head[12], 1025);
+    let c = within(head[13], 262145);
+    let p = within(head[14], 65537);
+    let f = within(head[15], 2049);
+    let m = within(head[16], 2049);
     crate::choices::tell(
         forbids,
-        head[1] as usize,
-        head[2] as usize,
-        head[3] as usize,
-        head[4] as usize,
+        wide(head[0]),
+        wide(head[1]),
+        wide(head[2]),
+        wide(head[3]),
         weights,
         offsets,
         ids,
         noise,
         words,
-        domains,
+        &mut domains[..d],
         &mut counts[..c],
         &mut pending[..p],
         &mut floats[..f],
@@ -130,23 +140,37 @@ fn choose(
     )
 }
 
-fn same(a: &[u64], b: &[u64]) -> bool {
-    if a.len() != b.len() {
-        return false;
-    }
-    let mut i = 0;
-    while i < a.len() {
-        if a[i] != b[i] {
-            return false;
+// Whether the first `many` domains are the same.
+fn same(a: &[u64; 1025], b: &[u64; 1025], many: usize) -> bool {
+    let mut c = 0;
+    while c < 1025 {
+        if c < many {
+            if a[c] != b[c] {
+                return false;
+            }
         }
-        i += 1;
+        c += 1;
     }
     true
 }
 
-// A run, told whole.
-fn run_whole(
-    head: &[u32; 18],
+// Says where the choices lead elsewhere than the run: a contradiction leaves all domains zero.
+fn compare(end: u64, code: u32, a: &[u64; 1025], b: &[u64; 1025], many: usize) {
+    if code == 12 {
+        if end != 3 {
+            print::text(b"the choices end in a contradiction\n");
+        }
+        return;
+    }
+    if !same(a, b, many) {
+        print::text(b"the choices lead to other domains\n");
+    }
+}
+
+// A run, told whole, or its refusal alone.
+fn run_told(
+    whole: bool,
+    head: &[u32; 17],
     forbids: &[u32],
     weights: &[u32],
     offsets: &[u32],
@@ -154,10 +178,13 @@ fn run_whole(
     noise: &[u32],
     words: &[u32],
 ) {
-    let mut space = [7u64; 1025];
+    let mut domains = [7u64; 1025];
     let mut again = [7u64; 1025];
-    let d = within(head[13], 1025);
-    let t = solve(
+    let mut counts = [7u8; 262145];
+    let mut pending = [7u32; 65537];
+    let mut floats = [7.0f32; 2049];
+    let mut marks = [7u8; 2049];
+    let told = solve(
         head,
         forbids,
         weights,
@@ -165,14 +192,19 @@ fn run_whole(
         ids,
         noise,
         words,
-        &mut space[..d],
+        &mut domains,
+        &mut counts,
+        &mut pending,
+        &mut floats,
+        &mut marks,
     );
-    if t.refused != 0 {
-        print::refused(t.refused);
+    if told.refused != 0 || !whole {
+        print::refused(told.refused);
         return;
     }
-    print::end(t.end, t.used);
-    print::domains(&space[..d]);
+    let many = wide(head[12]);
+    print::end(told.end, told.used);
+    print::domains(&domains, many);
     let code = choose(
         head,
         forbids,
@@ -181,143 +213,128 @@ fn run_whole(
         ids,
         noise,
         words,
-        &mut again[..d],
+        &mut again,
+        &mut counts,
+        &mut pending,
+        &mut floats,
+        &mut marks,
     );
-    if code == 12 {
-        if t.end != 3 {
-            print::text(b"the choices end in a contradiction\n");
-        }
-        return;
-    }
-    if !same(&space[..d], &again[..d]) {
-        print::text(b"the choices lead to other domains\n");
-    }
+    compare(told.end, code, &domains, &again, many);
 }
 
-// A run, of which the refusal is told.
-fn run_refusal(
-    head: &[u32; 18],
-    forbids: &[u32],
-    weights: &[u32],
-    offsets: &[u32],
-    ids: &[u8],
-    noise: &[u32],
-    words: &[u32],
-) {
-    let mut space = [7u64; 1025];
-    let d = within(head[13], 1025);
-    let t = solve(
-        head,
-        forbids,
-        weights,
-        offsets,
-        ids,
-        noise,
-        words,
-        &mut space[..d],
-    );
-    print::refused(t.refused);
+// ---- propagation, and a list that is looked up
+
+fn domain_of(low: u32, high: u32) -> u64 {
+    low as u64 | (high as u64) << 32
 }
 
-// The starting domains of two numbers for each.
-fn put_domains(halves: &[u32], domains: &mut [u64]) {
+fn half(halves: &[u32], i: usize) -> u32 {
+    if i < halves.len() {
+        return halves[i];
+    }
+    0
+}
+
+// The starting domains, of two numbers for each.
+fn put_domains(halves: &[u32], domains: &mut [u64; 1025]) {
     let mut c = 0;
-    while c < domains.len() {
-        if c < halves.len() / 2 {
-            domains[c] = halves[2 * c] as u64 | (halves[2 * c + 1] as u64) << 32;
-        }
+    while c < 1025 {
+        domains[c] = domain_of(half(halves, 2 * c), half(halves, 2 * c + 1));
         c += 1;
     }
 }
 
-// Propagation, told with what it leaves.
-fn propagate(head: &[u32; 18], offsets: &[u32], ids: &[u8], halves: &[u32]) {
-    let mut space = [7u64; 1025];
-    let mut counts = [7u8; 262145];
-    let mut pending = [7u32; 65537];
-    let d = within(head[13], 1025);
-    let c = within(head[14], 262145);
-    let p = within(head[15], 65537);
-    put_domains(halves, &mut space[..d]);
+// The number of propagation's refusal, 0 where it is accepted.
+fn propagate(
+    head: &[u32; 17],
+    offsets: &[u32],
+    ids: &[u8],
+    domains: &mut [u64; 1025],
+    counts: &mut [u8; 262145],
+    pending: &mut [u32; 65537],
+) -> u32 {
+    let d = within(head[12], 1025);
+    let c = within(head[13], 262145);
+    let p = within(head[14], 65537);
     match propagation::propagate(
-        head[1] as usize,
+        wide(head[0]),
         offsets,
         ids,
-        head[2] as usize,
-        head[3] as usize,
-        head[4] as usize,
-        &mut space[..d],
+        wide(head[1]),
+        wide(head[2]),
+        wide(head[3]),
+        &mut domains[..d],
         &mut counts[..c],
         &mut pending[..p],
     ) {
-        Propagated::Refused(refusal) => print::refused(refusals::inner::number(refusal)),
-        Propagated::Consistent => print::refused(0),
-        Propagated::Contradiction => print::refused(0),
+        Propagated::Refused(refusal) => refusals::inner::number(refusal),
+        Propagated::Consistent => 0,
+        Propagated::Contradiction => 0,
     }
-    print::domains(&space[..d]);
+}
+
+// Propagation, told with what it leaves.
+fn propagate_told(head: &[u32; 17], offsets: &[u32], ids: &[u8], halves: &[u32]) {
+    let mut domains = [7u64; 1025];
+    let mut counts = [7u8; 262145];
+    let mut pending = [7u32; 65537];
+    put_domains(halves, &mut domains);
+    print::refused(propagate(head, offsets, ids, &mut domains, &mut counts, &mut pending));
+    print::domains(&domains, wide(head[12]));
 }
 
 // A list that is looked up, told with the number of the call beside it.
-fn look_up(head: &[u32; 18], offsets: &[u32], ids: &[u8]) {
-    print::part(adjacency::list(
-        head[1] as usize,
-        offsets,
-        ids,
-        head[5] as usize,
-        head[6] as usize,
-    ));
+fn list_told(head: &[u32; 17], offsets: &[u32], ids: &[u8]) {
+    let count = wide(head[0]);
+    let pattern = wide(head[4]);
+    let direction = wide(head[5]);
+    print::part(adjacency::list(count, offsets, ids, pattern, direction));
     print::refused(refusals::inner::number_of(adjacency::list_refusal(
-        head[1] as usize,
+        count,
         offsets,
         ids,
-        head[5] as usize,
-        head[6] as usize,
+        pattern,
+        direction,
     )));
 }
 
-// Makes and tells a call of which all is read.
-fn answer(head: &[u32; 18], numbers: &[u32], ids: &[u8]) {
-    let w = head[7] as usize;
-    let o = w + head[8] as usize;
-    let n = o + head[9] as usize;
-    let r = n + head[10] as usize;
-    let f = r + head[11] as usize;
-    let d = f + head[12] as usize;
-    if numbers.len() != d {
-        return;
+// ---- a call of the stream
+
+// So many numbers from there on, or none where there are fewer.
+fn part(numbers: &[u32], from: usize, many: usize) -> &[u32] {
+    if from <= numbers.len() {
+        if many <= numbers.len() - from {
+            let to = from + many;
+            return &numbers[from..to];
+        }
     }
-    match head[0] {
-        0 => run_whole(
-            head,
-            &numbers[r..f],
-            &numbers[..w],
-            &numbers[w..o],
-            ids,
-            &numbers[o..n],
-            &numbers[n..r],
-        ),
-        1 => run_refusal(
-            head,
-            &numbers[r..f],
-            &numbers[..w],
-            &numbers[w..o],
-            ids,
-            &numbers[o..n],
-            &numbers[n..r],
-        ),
-        2 => propagate(head, &numbers[w..o], ids, &numbers[f..d]),
-        _ => look_up(head, &numbers[w..o], ids),
+    &numbers[0..0]
+}
+
+// Makes and tells a call of which all is read.
+fn answer(call: u32, head: &[u32; 17], numbers: &[u32], ids: &[u8]) {
+    let w = wide(head[6]);
+    let o = w + wide(head[7]);
+    let n = o + wide(head[8]);
+    let r = n + wide(head[9]);
+    let f = r + wide(head[10]);
+    let weights = part(numbers, 0, w);
+    let offsets = part(numbers, w, wide(head[7]));
+    let noise = part(numbers, o, wide(head[8]));
+    let words = part(numbers, n, wide(head[9]));
+    let forbids = part(numbers, r, wide(head[10]));
+    let halves = part(numbers, f, wide(head[11]));
+    match call {
+        0 => run_told(true, head, forbids, weights, offsets, ids, noise, words),
+        1 => run_told(false, head, forbids, weights, offsets, ids, noise, words),
+        2 => propagate_told(head, offsets, ids, halves),
+        _ => list_told(head, offsets, ids),
     }
 }
 
 // How many numbers the slices of a call have.
-fn numbers_of(head: &[u32; 18]) -> usize {
-    head[7] as usize
-        + head[8] as usize
-        + head[9] as usize
-        + head[10] as usize
-        + head[11] as usize
-        + head[12] as usize
+fn numbers_of(head: &[u32; 17]) -> usize {
+    wide(head[6]) + wide(head[7]) + wide(head[8]) + wide(head[9]) + wide(head[10]) + wide(head[11])
 }
 
 fn short() -> bool {
@@ -330,36 +347,43 @@ fn large() -> bool {
     false
 }
 
-// Reads the slices of a call, then makes and tells it.
-fn body(head: &[u32; 18], numbers: &mut [u32], ids: &mut [u8]) -> bool {
-    let many = numbers_of(head);
+// Reads the ids of a call, then makes and tells it.
+fn with_ids(call: u32, head: &[u32; 17], numbers: &[u32], ids: &mut [u8]) -> bool {
+    let Next::Number(n) = input::number() else {
+        return short();
+    };
+    let many = wide(n);
+    if ids.len() < many {
+        return large();
+    }
+    if !input::bytes(&mut ids[..many]) {
+        return short();
+    }
+    answer(call, head, numbers, &ids[..many]);
+    true
+}
+
+// Reads the rest of a call, then makes and tells it.
+fn rest(call: u32, numbers: &mut [u32], ids: &mut [u8]) -> bool {
+    let mut head = [0u32; 17];
+    if !input::numbers(&mut head) {
+        return short();
+    }
+    let many = numbers_of(&head);
     if numbers.len() < many {
         return large();
     }
-    let mut bytes = [0u32; 1];
-    let Came::Whole = input::numbers(&mut numbers[..many]) else {
-        return short();
-    };
-    let Came::Whole = input::numbers(&mut bytes) else {
-        return short();
-    };
-    let k = bytes[0] as usize;
-    if ids.len() < k {
-        return large();
-    }
-    if io::read_full(STDIN_FILENO, &mut ids[..k]) < k {
+    if !input::numbers(&mut numbers[..many]) {
         return short();
     }
-    answer(head, &numbers[..many], &ids[..k]);
-    true
+    with_ids(call, &head, &numbers[..many], ids)
 }
 
 // Answers the next call of the stream, and whether there may be another.
 pub(crate) fn next(numbers: &mut [u32], ids: &mut [u8]) -> bool {
-    let mut head = [0u32; 18];
-    match input::numbers(&mut head) {
-        Came::Nothing => false,
-        Came::Short => short(),
-        Came::Whole => body(&head, numbers, ids),
+    match input::number() {
+        Next::End => false,
+        Next::Short => short(),
+        Next::Number(call) => rest(call, numbers, ids),
     }
 }

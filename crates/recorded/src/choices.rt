@@ -1,5 +1,13 @@
 // The choices of a run. A run tells its end alone, so its steps are gone through again, and each choice is laid as a forbid that keeps only the pattern:
-// that is what a choice is (docs/RULES.md, "Run").
+// that is what a choice is (docs/RULES.md, "Run"). Main property: every step starts from a state that some forbids lead to, as the library asks.
+ghost use mathlib.Core.Path.{_≡_};
+ghost use Prim.Native.Nat.{_+_, _/_, _<_};
+ghost use lib.ListN.{length};
+ghost use Rattle.adjacency.specs.Tables.{table};
+ghost use Rattle.grid.specs.Grid.{grid};
+ghost use Rattle.run.specs.Run.{given};
+ghost use Rattle.run.specs.Called.{memory};
+ghost use Rattle.run.specs.Stages.{Standing};
 use choice::inner::Observed;
 use run::Choice;
 
@@ -29,7 +37,12 @@ fn lay(
     pending: &mut [u32],
     floats: &mut [f32],
     marks: &mut [u8],
-) -> u32 {
+) -> u32
+    requires { ⌜ Standing (given (table count (now offsets) (now ids)) (now weights) (grid width height mode) (now noise)) (memory (now domains) (now counts) (now pending) (now floats) (now marks)) ⌝ }
+    ensures { λ r. ⌜ (r ≡ 0
+        → Standing (given (table count (now (offsets .entry)) (now (ids .entry))) (now (weights .entry)) (grid width height mode) (now (noise .entry)))
+        (memory (now (domains .exit)) (now (counts .exit)) (now (pending .exit)) (now (floats .exit)) (now (marks .exit)))) ⌝ }
+{
     if domains.len() <= cell as usize {
         return 14;
     }
@@ -92,7 +105,12 @@ fn choose(
     pending: &mut [u32],
     floats: &mut [f32],
     marks: &mut [u8],
-) -> u32 {
+) -> u32
+    requires { ⌜ Standing (given (table count (now offsets) (now ids)) (now weights) (grid width height mode) (now noise)) (memory (now domains) (now counts) (now pending) (now floats) (now marks)) ⌝ }
+    ensures { λ r. ⌜ (r ≡ 0
+        → Standing (given (table count (now (offsets .entry)) (now (ids .entry))) (now (weights .entry)) (grid width height mode) (now (noise .entry)))
+        (memory (now (domains .exit)) (now (counts .exit)) (now (pending .exit)) (now (floats .exit)) (now (marks .exit)))) ⌝ }
+{
     let weighted = adjacency::inner::weighted_mask(weights);
     match choice::inner::observe(domains.len(), noise, domains, floats, marks, weighted) {
         Observed::Nothing => 13,
@@ -140,7 +158,13 @@ fn step(
     pending: &mut [u32],
     floats: &mut [f32],
     marks: &mut [u8],
-) -> u32 {
+) -> u32
+    requires { ⌜ Standing (given (table count (now offsets) (now ids)) (now weights) (grid width height mode) (now noise)) (memory (now domains) (now counts) (now pending) (now floats) (now marks)) ⌝ }
+    requires { ⌜ k < length (now forbids) / 3 + length (now words) ⌝ }
+    ensures { λ r. ⌜ (r ≡ 0
+        → Standing (given (table count (now (offsets .entry)) (now (ids .entry))) (now (weights .entry)) (grid width height mode) (now (noise .entry)))
+        (memory (now (domains .exit)) (now (counts .exit)) (now (pending .exit)) (now (floats .exit)) (now (marks .exit)))) ⌝ }
+{
     let first = forbids.len() / 3;
     if k < first {
         return lay(
@@ -162,9 +186,6 @@ fn step(
             floats,
             marks,
         );
-    }
-    if words.len() <= k - first {
-        return 13;
     }
     choose(
         words[k - first],
@@ -222,7 +243,10 @@ pub(crate) fn tell(
         marks,
     );
     let mut k = 0;
-    while code == 0 {
+    while k < forbids.len() / 3 + words.len() {
+        if code != 0 {
+            return code;
+        }
         code = step(
             k,
             forbids,

@@ -1,11 +1,10 @@
-// Numbers from standard input.
-ghost use Prim.Native.Nat.{_≤_};
+// Numbers from standard input: u32, little-endian.
 use libc::STDIN_FILENO;
 
-// How numbers came: all of them, none since the input ended before the first, or not all.
-pub(crate) enum Came {
-    Whole,
-    Nothing,
+// What the input has next: a number, nothing since it ends here, or less than a number.
+pub(crate) enum Next {
+    Number(u32),
+    End,
     Short,
 }
 
@@ -13,49 +12,36 @@ fn wide(byte: u8) -> u32 {
     byte as u32
 }
 
-fn least(a: usize, b: usize) -> usize
-    ensures { λ r. ⌜ (r ≤ a) × (r ≤ b) ⌝ }
-{
-    if a < b { a } else { b }
+fn value(bytes: &[u8; 4]) -> u32 {
+    wide(bytes[0]) | wide(bytes[1]) << 8 | wide(bytes[2]) << 16 | wide(bytes[3]) << 24
 }
 
-// The number at place i of some bytes.
-fn number_at(bytes: &[u8; 4096], i: usize) -> u32 {
-    if i < 1024 {
-        let b = 4 * i;
-        return wide(bytes[b])
-            | wide(bytes[b + 1]) << 8
-            | wide(bytes[b + 2]) << 16
-            | wide(bytes[b + 3]) << 24;
+pub(crate) fn number() -> Next {
+    let mut bytes = [0u8; 4];
+    let got = io::read_full(STDIN_FILENO, &mut bytes);
+    if got == 0 {
+        return Next::End;
     }
-    0
+    if got < 4 {
+        return Next::Short;
+    }
+    Next::Number(value(&bytes))
 }
 
-fn put_numbers(bytes: &[u8; 4096], numbers: &mut [u32], from: usize, many: usize) {
+// Fills a slice with numbers, and answers whether the input had that many.
+pub(crate) fn numbers(out: &mut [u32]) -> bool {
     let mut i = 0;
-    while i < many {
-        if i < numbers.len() - from {
-            numbers[from + i] = number_at(bytes, i);
-        }
+    while i < out.len() {
+        let Next::Number(n) = number() else {
+            return false;
+        };
+        out[i] = n;
         i += 1;
     }
+    true
 }
 
-// Fills a slice with numbers.
-pub(crate) fn numbers(out: &mut [u32]) -> Came {
-    let mut bytes = [0u8; 4096];
-    let mut done = 0;
-    while done < out.len() {
-        let many = least(out.len() - done, 1024);
-        let got = io::read_full(STDIN_FILENO, &mut bytes[..4 * many]);
-        if got < 4 * many {
-            if done == 0 && got == 0 {
-                return Came::Nothing;
-            }
-            return Came::Short;
-        }
-        put_numbers(&bytes, out, done, many);
-        done += many;
-    }
-    Came::Whole
+// Fills a slice with bytes, and answers whether the input had that many.
+pub(crate) fn bytes(out: &mut [u8]) -> bool {
+    io::read_full(STDIN_FILENO, out) == out.len()
 }

@@ -1,10 +1,10 @@
 // Replays recorded calls: what a stream of calls on standard input is answered, on standard output. The gate holds it to what was recorded (vectors/README.md).
 // All numbers of the stream are u32, little-endian. A call is 18 of them, then its slices:
-//   0 what is called: 0 a run, told whole; 1 a run, of which the refusal is told; 2 propagation; 3 a list that is looked up
-//   1 patterns, 2 width, 3 height, 4 mode, 5 the pattern asked for, 6 the direction asked for
-//   7 to 12 how many weights, offsets, noise words, words, numbers of forbids and numbers of starting domains (two for each, the lower half first)
-//   13 to 17 how many domains, support counts, pending removals, floats and marks are lent, at most what this program has
-// then those six slices in that order, then how many ids there are, and the ids, a byte each.
+//   what is called: 0 a run, told whole; 1 a run, of which the refusal is told; 2 propagation; 3 a list that is looked up
+//   patterns, width, height, mode, the pattern asked for, the direction asked for
+//   how many weights, offsets, noise words, words, numbers of forbids (three for each) and numbers of starting domains (two for each, the lower half first)
+//   how many domains, support counts, pending removals, floats and marks are lent, at most what this program has
+// then the numbers of those slices in that order, then how many ids there are, and the ids, a byte each.
 // What is printed is lines as in vectors/: `refused N`, `end E USED`, `domains ..`, `choice CELL BITS PATTERN`, `part ..`.
 mod calls;
 mod choices;

@@ -23,11 +23,14 @@ pub(crate) fn end(end: u64, used: usize) {
     text(b"\n");
 }
 
-pub(crate) fn domains(words: &[u64]) {
+// The first `many` of some domains.
+pub(crate) fn domains(words: &[u64; 1025], many: usize) {
     text(b"domains");
     let mut c = 0;
-    while c < words.len() {
-        number(words[c]);
+    while c < 1025 {
+        if c < many {
+            number(words[c]);
+        }
         c += 1;
     }
     text(b"\n");
