@@ -42,7 +42,7 @@ pub word-left : (i : Given) (words : List ℕ) (used : ℕ) (s : State Beside) (
 word-left i words used s state q e = turn-on i words used s (sym e ∙ ap (λ (x : Step). turnOf x used state) q) .left
 
 -- a cell is empty: the run is over as a contradiction
-turn-empty : (i : Given) (words : List ℕ) (used : ℕ) (s : State Beside) → s .empty ≡ true → turn i words used s ≡ Turn.over (ended 3 used (replicate (length (s .domains)) 0))
+pub turn-empty : (i : Given) (words : List ℕ) (used : ℕ) (s : State Beside) → s .empty ≡ true → turn i words used s ≡ Turn.over (ended 3 used (replicate (length (s .domains)) 0))
 unfolding turn
 turn-empty i words used s e = rw e
 

@@ -7,6 +7,7 @@ ghost use Rattle.adjacency.specs.Tables.{table};
 ghost use Rattle.grid.specs.Grid.{grid, badCell};
 ghost use Rattle.run.specs.Run.{given};
 ghost use Rattle.run.specs.Called.{room, badMemory, badLengths, baseTests, placeTests, forbidTests, forbidsOf, recordsIn};
+use crate::Forbid;
 use refusals::Refusal;
 use refusals::Verdict;
 
@@ -173,6 +174,23 @@ pub(crate) fn judge_all(forbids: &[u32], count: usize, width: usize, height: usi
         let refusal = judge(forbids[3 * i], forbids[3 * i + 1], count, width, height);
         if refusal != 0 {
             return refusal;
+        }
+        i += 1;
+    }
+    0
+}
+
+// The number of the first refusal of the forbids, 0 for none. It holds the forbids, and is proved by hand.
+pub(crate) fn check_all(forbids: &[Forbid], count: usize, width: usize, height: usize) -> u32
+    ensures { λ r. ⌜ ((offsets ids : List ℕ) (mode : ℕ)
+        → r ≡ firstOf (forbidTests (table count offsets ids) (grid width height mode) (now (forbids .entry)))) ⌝ }
+{
+    let mut i = 0;
+    while i < forbids.len() {
+        let f = forbids[i];
+        let code = judge(f.cell, f.pattern, count, width, height);
+        if code != 0 {
+            return code;
         }
         i += 1;
     }

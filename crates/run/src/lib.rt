@@ -1,6 +1,10 @@
 // The run: observe, choose, forbid and collapse.
 ghost use mathlib.Core.Path.{_≡_};
+ghost use Rattle.adjacency.specs.Tables.{table};
+ghost use Rattle.grid.specs.Grid.{grid};
 ghost use Rattle.run.specs.Asked.{choiceTold, choiceAsked};
+ghost use Rattle.run.specs.Run.{given};
+ghost use Rattle.run.specs.Called.{memory, outcome, answerTold, called};
 use refusals::Refusal;
 use refusals::Verdict;
 
@@ -8,7 +12,10 @@ mod check;
 mod collapse;
 pub mod inner;
 mod laying;
+mod numbers;
 mod start;
+
+pub use numbers::run_numbers;
 
 pub struct Forbid {
     pub cell: u32,
@@ -45,4 +52,91 @@ pub fn choice_of(count: usize, weights: &[u32], domain: u64, word: u32) -> Choic
             Choice::Pattern(choice::inner::choose(weights, domain, word % sum))
         }
     }
+}
+
+// A run: refused, or from the forbids to its end. It holds the forbids, and is proved by hand.
+pub fn run(
+    forbids: &[Forbid],
+    count: usize,
+    width: usize,
+    height: usize,
+    mode: usize,
+    weights: &[u32],
+    offsets: &[u32],
+    ids: &[u8],
+    noise: &[u32],
+    words: &[u32],
+    domains: &mut [u64],
+    counts: &mut [u8],
+    pending: &mut [u32],
+    floats: &mut [f32],
+    marks: &mut [u8],
+) -> Answer
+    ensures { λ r. ⌜ outcome (answerTold r) (memory (now (domains .exit)) (now (counts .exit)) (now (pending .exit)) (now (floats .exit)) (now (marks .exit)))
+        ≡ called (given (table count (now (offsets .entry)) (now (ids .entry))) (now (weights .entry)) (grid width height mode) (now (noise .entry))) (now (forbids .entry)) (now (words .entry))
+        (memory (now (domains .entry)) (now (counts .entry)) (now (pending .entry)) (now (floats .entry)) (now (marks .entry))) ⌝ }
+{
+    let bad = check::check_all(forbids, count, width, height);
+    let mut code = inner::begin(
+        bad,
+        forbids.len(),
+        count,
+        width,
+        height,
+        mode,
+        weights,
+        offsets,
+        ids,
+        noise,
+        words,
+        domains,
+        counts,
+        pending,
+        floats,
+        marks,
+    );
+    let mut i = 0;
+    while i < forbids.len() {
+        if code != 0 {
+            break;
+        }
+        let f = forbids[i];
+        code = inner::lay_one(
+            f.cell,
+            f.pattern,
+            f.keep,
+            count,
+            width,
+            height,
+            mode,
+            weights,
+            offsets,
+            ids,
+            noise,
+            words,
+            domains,
+            counts,
+            pending,
+            floats,
+            marks,
+        );
+        i += 1;
+    }
+    inner::conclude(
+        code,
+        count,
+        width,
+        height,
+        mode,
+        weights,
+        offsets,
+        ids,
+        noise,
+        words,
+        domains,
+        counts,
+        pending,
+        floats,
+        marks,
+    )
 }
