@@ -1,5 +1,7 @@
 // Calls: a call is read, made and told. Lent memory starts full of sevens, since its old content is ignored.
+ghost use mathlib.Core.Path.{_≡_};
 ghost use Prim.Native.Nat.{_≤_, _<_};
+ghost use lib.ListN.{length};
 use crate::input;
 use crate::input::Next;
 use crate::print;
@@ -21,6 +23,37 @@ fn within(asked: u32, most: usize) -> usize
         return n;
     }
     most
+}
+
+// Memory to lend. That it is so long is all that is said of it.
+fn domains_to_lend() -> [u64; 1025]
+    ensures { λ r. ⌜ 1025 ≡ length r ⌝ }
+{
+    [7; 1025]
+}
+
+fn counts_to_lend() -> [u8; 262145]
+    ensures { λ r. ⌜ 262145 ≡ length r ⌝ }
+{
+    [7; 262145]
+}
+
+fn pending_to_lend() -> [u32; 65537]
+    ensures { λ r. ⌜ 65537 ≡ length r ⌝ }
+{
+    [7; 65537]
+}
+
+fn floats_to_lend() -> [f32; 2049]
+    ensures { λ r. ⌜ 2049 ≡ length r ⌝ }
+{
+    [7.0; 2049]
+}
+
+fn marks_to_lend() -> [u8; 2049]
+    ensures { λ r. ⌜ 2049 ≡ length r ⌝ }
+{
+    [7; 2049]
 }
 
 // ---- a run
@@ -62,8 +95,8 @@ fn told_of(answer: Answer) -> Told {
     }
 }
 
-// The run, on memory of the lengths that the call asks for.
-fn solve(
+// The run, on parts of the memory of the lengths that the call asks for.
+fn solve_in(
     head: &[u32; 17],
     forbids: &[u32],
     weights: &[u32],
@@ -71,17 +104,17 @@ fn solve(
     ids: &[u8],
     noise: &[u32],
     words: &[u32],
-    domains: &mut [u64; 1025],
-    counts: &mut [u8; 262145],
-    pending: &mut [u32; 65537],
-    floats: &mut [f32; 2049],
-    marks: &mut [u8; 2049],
+    domains: &mut [u64],
+    counts: &mut [u8],
+    pending: &mut [u32],
+    floats: &mut [f32],
+    marks: &mut [u8],
 ) -> Told {
-    let d = within(head[12], 1025);
-    let c = within(head[13], 262145);
-    let p = within(head[14], 65537);
-    let f = within(head[15], 2049);
-    let m = within(head[16], 2049);
+    let d = within(head[12], domains.len());
+    let c = within(head[13], counts.len());
+    let p = within(head[14], pending.len());
+    let f = within(head[15], floats.len());
+    let m = within(head[16], marks.len());
     told_of(run::run_numbers(
         forbids,
         wide(head[0]),
@@ -101,8 +134,8 @@ fn solve(
     ))
 }
 
-// The choices of that run.
-fn choose(
+// The run.
+fn solve(
     head: &[u32; 17],
     forbids: &[u32],
     weights: &[u32],
@@ -110,17 +143,48 @@ fn choose(
     ids: &[u8],
     noise: &[u32],
     words: &[u32],
-    domains: &mut [u64; 1025],
-    counts: &mut [u8; 262145],
-    pending: &mut [u32; 65537],
-    floats: &mut [f32; 2049],
-    marks: &mut [u8; 2049],
+    domains: &mut [u64],
+) -> Told {
+    let mut counts = counts_to_lend();
+    let mut pending = pending_to_lend();
+    let mut floats = floats_to_lend();
+    let mut marks = marks_to_lend();
+    solve_in(
+        head,
+        forbids,
+        weights,
+        offsets,
+        ids,
+        noise,
+        words,
+        domains,
+        &mut counts,
+        &mut pending,
+        &mut floats,
+        &mut marks,
+    )
+}
+
+// The choices of that run, on such parts.
+fn choose_in(
+    head: &[u32; 17],
+    forbids: &[u32],
+    weights: &[u32],
+    offsets: &[u32],
+    ids: &[u8],
+    noise: &[u32],
+    words: &[u32],
+    domains: &mut [u64],
+    counts: &mut [u8],
+    pending: &mut [u32],
+    floats: &mut [f32],
+    marks: &mut [u8],
 ) -> u32 {
-    let d = within(head[12], 1025);
-    let c = within(head[13], 262145);
-    let p = within(head[14], 65537);
-    let f = within(head[15], 2049);
-    let m = within(head[16], 2049);
+    let d = within(head[12], domains.len());
+    let c = within(head[13], counts.len());
+    let p = within(head[14], pending.len());
+    let f = within(head[15], floats.len());
+    let m = within(head[16], marks.len());
     crate::choices::tell(
         forbids,
         wide(head[0]),
@@ -137,6 +201,37 @@ fn choose(
         &mut pending[..p],
         &mut floats[..f],
         &mut marks[..m],
+    )
+}
+
+// The choices of that run.
+fn choose(
+    head: &[u32; 17],
+    forbids: &[u32],
+    weights: &[u32],
+    offsets: &[u32],
+    ids: &[u8],
+    noise: &[u32],
+    words: &[u32],
+    domains: &mut [u64],
+) -> u32 {
+    let mut counts = counts_to_lend();
+    let mut pending = pending_to_lend();
+    let mut floats = floats_to_lend();
+    let mut marks = marks_to_lend();
+    choose_in(
+        head,
+        forbids,
+        weights,
+        offsets,
+        ids,
+        noise,
+        words,
+        domains,
+        &mut counts,
+        &mut pending,
+        &mut floats,
+        &mut marks,
     )
 }
 
@@ -178,12 +273,9 @@ fn run_told(
     noise: &[u32],
     words: &[u32],
 ) {
-    let mut domains = [7u64; 1025];
-    let mut again = [7u64; 1025];
-    let mut counts = [7u8; 262145];
-    let mut pending = [7u32; 65537];
-    let mut floats = [7.0f32; 2049];
-    let mut marks = [7u8; 2049];
+    let mut domains = domains_to_lend();
+    let mut again = domains_to_lend();
+    let many = wide(head[12]);
     let told = solve(
         head,
         forbids,
@@ -193,16 +285,11 @@ fn run_told(
         noise,
         words,
         &mut domains,
-        &mut counts,
-        &mut pending,
-        &mut floats,
-        &mut marks,
     );
     if told.refused != 0 || !whole {
         print::refused(told.refused);
         return;
     }
-    let many = wide(head[12]);
     print::end(told.end, told.used);
     print::domains(&domains, many);
     let code = choose(
@@ -214,10 +301,6 @@ fn run_told(
         noise,
         words,
         &mut again,
-        &mut counts,
-        &mut pending,
-        &mut floats,
-        &mut marks,
     );
     compare(told.end, code, &domains, &again, many);
 }
@@ -245,17 +328,17 @@ fn put_domains(halves: &[u32], domains: &mut [u64; 1025]) {
 }
 
 // The number of propagation's refusal, 0 where it is accepted.
-fn propagate(
+fn propagate_in(
     head: &[u32; 17],
     offsets: &[u32],
     ids: &[u8],
-    domains: &mut [u64; 1025],
-    counts: &mut [u8; 262145],
-    pending: &mut [u32; 65537],
+    domains: &mut [u64],
+    counts: &mut [u8],
+    pending: &mut [u32],
 ) -> u32 {
-    let d = within(head[12], 1025);
-    let c = within(head[13], 262145);
-    let p = within(head[14], 65537);
+    let d = within(head[12], domains.len());
+    let c = within(head[13], counts.len());
+    let p = within(head[14], pending.len());
     match propagation::propagate(
         wide(head[0]),
         offsets,
@@ -273,13 +356,17 @@ fn propagate(
     }
 }
 
+fn propagate(head: &[u32; 17], offsets: &[u32], ids: &[u8], domains: &mut [u64]) -> u32 {
+    let mut counts = counts_to_lend();
+    let mut pending = pending_to_lend();
+    propagate_in(head, offsets, ids, domains, &mut counts, &mut pending)
+}
+
 // Propagation, told with what it leaves.
 fn propagate_told(head: &[u32; 17], offsets: &[u32], ids: &[u8], halves: &[u32]) {
-    let mut domains = [7u64; 1025];
-    let mut counts = [7u8; 262145];
-    let mut pending = [7u32; 65537];
+    let mut domains = domains_to_lend();
     put_domains(halves, &mut domains);
-    print::refused(propagate(head, offsets, ids, &mut domains, &mut counts, &mut pending));
+    print::refused(propagate(head, offsets, ids, &mut domains));
     print::domains(&domains, wide(head[12]));
 }
 

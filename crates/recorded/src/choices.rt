@@ -1,8 +1,6 @@
 // The choices of a run. A run tells its end alone, so its steps are gone through again, and each choice is laid as a forbid that keeps only the pattern:
 // that is what a choice is (docs/RULES.md, "Run"). Main property: every step starts from a state that some forbids lead to, as the library asks.
 ghost use mathlib.Core.Path.{_≡_};
-ghost use Prim.Native.Nat.{_+_, _/_, _<_};
-ghost use lib.ListN.{length};
 ghost use Rattle.adjacency.specs.Tables.{table};
 ghost use Rattle.grid.specs.Grid.{grid};
 ghost use Rattle.run.specs.Run.{given};
@@ -160,7 +158,6 @@ fn step(
     marks: &mut [u8],
 ) -> u32
     requires { ⌜ Standing (given (table count (now offsets) (now ids)) (now weights) (grid width height mode) (now noise)) (memory (now domains) (now counts) (now pending) (now floats) (now marks)) ⌝ }
-    requires { ⌜ k < length (now forbids) / 3 + length (now words) ⌝ }
     ensures { λ r. ⌜ (r ≡ 0
         → Standing (given (table count (now (offsets .entry)) (now (ids .entry))) (now (weights .entry)) (grid width height mode) (now (noise .entry)))
         (memory (now (domains .exit)) (now (counts .exit)) (now (pending .exit)) (now (floats .exit)) (now (marks .exit)))) ⌝ }
@@ -187,6 +184,9 @@ fn step(
             marks,
         );
     }
+    if words.len() <= k - first {
+        return 13;
+    }
     choose(
         words[k - first],
         count,
@@ -206,8 +206,9 @@ fn step(
     )
 }
 
-// Goes through the steps of a run, from its beginning until one of them ends it, and tells each choice.
-pub(crate) fn tell(
+// Goes through the steps until one of them ends the run. There are at most as many choices as cells, so 1,024 and one to end suffice.
+fn steps(
+    begun: u32,
     forbids: &[u32],
     count: usize,
     width: usize,
@@ -223,27 +224,14 @@ pub(crate) fn tell(
     pending: &mut [u32],
     floats: &mut [f32],
     marks: &mut [u8],
-) -> u32 {
-    let mut code = run::inner::begin(
-        0,
-        0,
-        count,
-        width,
-        height,
-        mode,
-        weights,
-        offsets,
-        ids,
-        noise,
-        words,
-        domains,
-        counts,
-        pending,
-        floats,
-        marks,
-    );
+) -> u32
+    requires { ⌜ (begun ≡ 0
+        → Standing (given (table count (now offsets) (now ids)) (now weights) (grid width height mode) (now noise))
+        (memory (now domains) (now counts) (now pending) (now floats) (now marks))) ⌝ }
+{
+    let mut code = begun;
     let mut k = 0;
-    while k < forbids.len() / 3 + words.len() {
+    while k < forbids.len() / 3 + 1025 {
         if code != 0 {
             return code;
         }
@@ -268,4 +256,60 @@ pub(crate) fn tell(
         k += 1;
     }
     code
+}
+
+// Goes through a run from its beginning and tells each choice.
+pub(crate) fn tell(
+    forbids: &[u32],
+    count: usize,
+    width: usize,
+    height: usize,
+    mode: usize,
+    weights: &[u32],
+    offsets: &[u32],
+    ids: &[u8],
+    noise: &[u32],
+    words: &[u32],
+    domains: &mut [u64],
+    counts: &mut [u8],
+    pending: &mut [u32],
+    floats: &mut [f32],
+    marks: &mut [u8],
+) -> u32 {
+    let begun = run::inner::begin(
+        0,
+        0,
+        count,
+        width,
+        height,
+        mode,
+        weights,
+        offsets,
+        ids,
+        noise,
+        words,
+        domains,
+        counts,
+        pending,
+        floats,
+        marks,
+    );
+    steps(
+        begun,
+        forbids,
+        count,
+        width,
+        height,
+        mode,
+        weights,
+        offsets,
+        ids,
+        noise,
+        words,
+        domains,
+        counts,
+        pending,
+        floats,
+        marks,
+    )
 }

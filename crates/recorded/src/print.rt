@@ -50,11 +50,15 @@ pub(crate) fn part(ids: &[u8]) {
     text(b"\n");
 }
 
+fn wide_bits(bits: u32) -> u64 {
+    bits as u64
+}
+
 // The bits of an entropy, which is no NaN.
 fn bits(entropy: f32) {
     text(b" ");
     if entropy == entropy {
-        io::print_hex(STDOUT_FILENO, f32::to_bits(entropy) as u64, 8);
+        io::print_hex(STDOUT_FILENO, wide_bits(f32::to_bits(entropy)), 8);
     } else {
         text(b"NaN");
     }
