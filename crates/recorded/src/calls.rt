@@ -318,7 +318,7 @@ fn half(halves: &[u32], i: usize) -> u32 {
     0
 }
 
-// The starting domains, of two numbers for each.
+// Puts starting domains, of two numbers for each.
 fn put_domains(halves: &[u32], domains: &mut [u64; 1025]) {
     let mut c = 0;
     while c < 1025 {
@@ -362,10 +362,16 @@ fn propagate(head: &[u32; 17], offsets: &[u32], ids: &[u8], domains: &mut [u64])
     propagate_in(head, offsets, ids, domains, &mut counts, &mut pending)
 }
 
-// Propagation, told with what it leaves.
-fn propagate_told(head: &[u32; 17], offsets: &[u32], ids: &[u8], halves: &[u32]) {
+// The starting domains.
+fn starting(halves: &[u32]) -> [u64; 1025] {
     let mut domains = domains_to_lend();
     put_domains(halves, &mut domains);
+    domains
+}
+
+// Propagation, told with what it leaves.
+fn propagate_told(head: &[u32; 17], offsets: &[u32], ids: &[u8], halves: &[u32]) {
+    let mut domains = starting(halves);
     print::refused(propagate(head, offsets, ids, &mut domains));
     print::domains(&domains, wide(head[12]));
 }
@@ -434,6 +440,14 @@ fn large() -> bool {
     false
 }
 
+fn read_ids(call: u32, head: &[u32; 17], numbers: &[u32], ids: &mut [u8]) -> bool {
+    if !input::bytes(ids) {
+        return short();
+    }
+    answer(call, head, numbers, ids);
+    true
+}
+
 // Reads the ids of a call, then makes and tells it.
 fn with_ids(call: u32, head: &[u32; 17], numbers: &[u32], ids: &mut [u8]) -> bool {
     let Next::Number(n) = input::number() else {
@@ -443,34 +457,54 @@ fn with_ids(call: u32, head: &[u32; 17], numbers: &[u32], ids: &mut [u8]) -> boo
     if ids.len() < many {
         return large();
     }
-    if !input::bytes(&mut ids[..many]) {
+    read_ids(call, head, numbers, &mut ids[..many])
+}
+
+fn read_numbers(call: u32, head: &[u32; 17], numbers: &mut [u32], ids: &mut [u8]) -> bool {
+    if !input::numbers(numbers) {
         return short();
     }
-    answer(call, head, numbers, &ids[..many]);
-    true
+    with_ids(call, head, numbers, ids)
+}
+
+// Reads the numbers and the ids of a call, then makes and tells it.
+fn with_numbers(call: u32, head: &[u32; 17], numbers: &mut [u32], ids: &mut [u8]) -> bool {
+    let many = numbers_of(head);
+    if numbers.len() < many {
+        return large();
+    }
+    read_numbers(call, head, &mut numbers[..many], ids)
+}
+
+// Memory to read a call into.
+fn numbers_to_read() -> [u32; 32768]
+    ensures { λ r. ⌜ 32768 ≡ length r ⌝ }
+{
+    [0; 32768]
+}
+
+fn ids_to_read() -> [u8; 65536]
+    ensures { λ r. ⌜ 65536 ≡ length r ⌝ }
+{
+    [0; 65536]
 }
 
 // Reads the rest of a call, then makes and tells it.
-fn rest(call: u32, numbers: &mut [u32], ids: &mut [u8]) -> bool {
+fn rest(call: u32) -> bool {
     let mut head = [0u32; 17];
     if !input::numbers(&mut head) {
         return short();
     }
-    let many = numbers_of(&head);
-    if numbers.len() < many {
-        return large();
-    }
-    if !input::numbers(&mut numbers[..many]) {
-        return short();
-    }
-    with_ids(call, &head, &numbers[..many], ids)
+    let mut numbers = numbers_to_read();
+    let mut ids = ids_to_read();
+    with_numbers(call, &head, &mut numbers, &mut ids)
 }
 
 // Answers the next call of the stream, and whether there may be another.
-pub(crate) fn next(numbers: &mut [u32], ids: &mut [u8]) -> bool {
+pub(crate) fn next() -> bool {
     match input::number() {
         Next::End => false,
         Next::Short => short(),
-        Next::Number(call) => rest(call, numbers, ids),
+        Next::Number(call) => rest(call),
     }
 }

@@ -1,158 +1,119 @@
+-- `recorded::calls::propagate_in` is safe: each part that is lent has the length that was asked for.
+-- Assumes nothing.
+use mathlib.Core.Path.{sym}
+use lib.Seq.{length-take-le}
 use borrow.Author.Needs.{needs}
 use Rattle.recorded.proofs.calls.propagate_in.Statement.{statement}
 use Rattle.recorded.proofs.calls.propagate_in.Tie as tie
-use Rattle.recorded.proofs.calls.propagate_in.Reads as reads
-use Rattle.recorded.proofs.calls.propagate_in.Lts as lts
-use Rattle.propagation.proofs.propagate.Reads as propagate-reads
-use Rattle.recorded.proofs.calls.wide.Reads as wide-reads
-use Rattle.recorded.proofs.calls.within.Reads as within-reads
-use Rattle.refusals.proofs.inner.number.Reads as number-reads
 
--- src/calls.rt:339:20
 element-copy-out-within : tie.Need-element-copy-out-within
 element-copy-out-within c = search needs
 
--- src/calls.rt:339:9
 within-requires : tie.Need-within-requires
 within-requires c κs = search needs
 
--- src/calls.rt:340:20
 element-copy-out-within-2 : tie.Need-element-copy-out-within-2
 element-copy-out-within-2 c = search needs
 
--- src/calls.rt:340:9
 within-requires-2 : tie.Need-within-requires-2
 within-requires-2 c κs = search needs
 
--- src/calls.rt:341:20
 element-copy-out-within-3 : tie.Need-element-copy-out-within-3
 element-copy-out-within-3 c = search needs
 
--- src/calls.rt:341:9
 within-requires-3 : tie.Need-within-requires-3
 within-requires-3 c κs = search needs
 
--- src/calls.rt:343:14
 element-copy-out-wide : tie.Need-element-copy-out-wide
 element-copy-out-wide c = search needs
 
--- src/calls.rt:343:9
 wide-requires : tie.Need-wide-requires
 wide-requires c κs = search needs
 
--- src/calls.rt:346:14
 element-copy-out-wide-2 : tie.Need-element-copy-out-wide-2
 element-copy-out-wide-2 c = search needs
 
--- src/calls.rt:346:9
 wide-requires-2 : tie.Need-wide-requires-2
 wide-requires-2 c κs = search needs
 
--- src/calls.rt:347:14
 element-copy-out-wide-3 : tie.Need-element-copy-out-wide-3
 element-copy-out-wide-3 c = search needs
 
--- src/calls.rt:347:9
 wide-requires-3 : tie.Need-wide-requires-3
 wide-requires-3 c κs = search needs
 
--- src/calls.rt:348:14
 element-copy-out-wide-4 : tie.Need-element-copy-out-wide-4
 element-copy-out-wide-4 c = search needs
 
--- src/calls.rt:348:9
 wide-requires-4 : tie.Need-wide-requires-4
 wide-requires-4 c κs = search needs
 
--- src/calls.rt:349:9
 slice-relend-prefix-propagate : tie.Need-slice-relend-prefix-propagate
 slice-relend-prefix-propagate c = search needs
 
--- src/calls.rt:349:9
 slice-aggregate-propagate : tie.Need-slice-aggregate-propagate
-slice-aggregate-propagate c = ?
+slice-aggregate-propagate c = sym (length-take-le _ _ (c .before .before .before .before .before .before .before .before .before .before .before .before .before .within .ensures))
 
--- src/calls.rt:350:9
 slice-relend-prefix-propagate-2 : tie.Need-slice-relend-prefix-propagate-2
 slice-relend-prefix-propagate-2 c = search needs
 
--- src/calls.rt:350:9
 slice-aggregate-propagate-2 : tie.Need-slice-aggregate-propagate-2
-slice-aggregate-propagate-2 c = ?
+slice-aggregate-propagate-2 c = sym (length-take-le _ _ (c .before .before .before .before .before .before .before .before .before .before .before .before .within2 .ensures))
 
--- src/calls.rt:351:9
 slice-relend-prefix-propagate-3 : tie.Need-slice-relend-prefix-propagate-3
 slice-relend-prefix-propagate-3 c = search needs
 
--- src/calls.rt:351:9
 slice-aggregate-propagate-3 : tie.Need-slice-aggregate-propagate-3
-slice-aggregate-propagate-3 c = ?
+slice-aggregate-propagate-3 c = sym (length-take-le _ _ (c .before .before .before .before .before .before .before .before .before .before .before .within3 .ensures))
 
--- src/calls.rt:342:11
 propagate-requires : tie.Need-propagate-requires
 propagate-requires c κs = search needs
 
--- src/calls.rt:353:29
 enum-known-refusal : tie.Need-enum-known-refusal
 enum-known-refusal c = search needs
 
--- src/calls.rt:353:41
 number-requires : tie.Need-number-requires
 number-requires c κs = search needs
 
--- src/calls.rt:354:35
 enum-told : tie.Need-enum-told
 enum-told c = search needs
 
--- src/calls.rt:355:38
 enum-told-2 : tie.Need-enum-told-2
 enum-told-2 c = search needs
 
--- src/calls.rt:331:1
 same-length : tie.Need-same-length
 same-length c = search needs
 
--- src/calls.rt:331:1
 same-length-2 : tie.Need-same-length-2
 same-length-2 c = search needs
 
--- src/calls.rt:331:1
 same-length-3 : tie.Need-same-length-3
 same-length-3 c = search needs
 
--- src/calls.rt:331:1
 returns : tie.Need-returns
 returns c = search needs
 
--- src/calls.rt:331:1
 same-length-4 : tie.Need-same-length-4
 same-length-4 c = search needs
 
--- src/calls.rt:331:1
 same-length-5 : tie.Need-same-length-5
 same-length-5 c = search needs
 
--- src/calls.rt:331:1
 same-length-6 : tie.Need-same-length-6
 same-length-6 c = search needs
 
--- src/calls.rt:331:1
 returns-2 : tie.Need-returns-2
 returns-2 c = search needs
 
--- src/calls.rt:331:1
 same-length-7 : tie.Need-same-length-7
 same-length-7 c = search needs
 
--- src/calls.rt:331:1
 same-length-8 : tie.Need-same-length-8
 same-length-8 c = search needs
 
--- src/calls.rt:331:1
 same-length-9 : tie.Need-same-length-9
 same-length-9 c = search needs
 
--- src/calls.rt:331:1
 returns-3 : tie.Need-returns-3
 returns-3 c = search needs
 

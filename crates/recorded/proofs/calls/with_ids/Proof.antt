@@ -3,84 +3,59 @@ use Rattle.recorded.proofs.calls.with_ids.Statement.{statement}
 use Rattle.recorded.proofs.calls.with_ids.Tie as tie
 use Rattle.recorded.proofs.calls.with_ids.Reads as reads
 use Rattle.recorded.proofs.calls.with_ids.Lts as lts
-use Rattle.recorded.proofs.calls.answer.Reads as answer-reads
 use Rattle.recorded.proofs.calls.large.Reads as large-reads
+use Rattle.recorded.proofs.calls.read_ids.Reads as read-ids-reads
 use Rattle.recorded.proofs.calls.short.Reads as short-reads
 use Rattle.recorded.proofs.calls.wide.Reads as wide-reads
-use Rattle.recorded.proofs.input.bytes.Reads as bytes-reads
 use Rattle.recorded.proofs.input.number.Reads as number-reads
 
--- src/calls.rt:439:27
+-- src/calls.rt:453:27
 number-requires : tie.Need-number-requires
 number-requires c κs = search needs
 
--- src/calls.rt:439:22
+-- src/calls.rt:453:22
 enum-known-n : tie.Need-enum-known-n
 enum-known-n c = search needs
 
--- src/calls.rt:440:9
+-- src/calls.rt:454:9
 short-requires : tie.Need-short-requires
 short-requires c κs = search needs
 
--- src/calls.rt:440:9
+-- src/calls.rt:454:9
 returns : tie.Need-returns
 returns c = search needs
 
--- src/calls.rt:442:9
+-- src/calls.rt:456:9
 wide-requires : tie.Need-wide-requires
 wide-requires c κs = search needs
 
--- src/calls.rt:444:9
+-- src/calls.rt:458:9
 large-requires : tie.Need-large-requires
 large-requires c κs = search needs
 
--- src/calls.rt:444:9
+-- src/calls.rt:458:9
 returns-2 : tie.Need-returns-2
 returns-2 c = search needs
 
--- src/calls.rt:446:22
-slice-relend-prefix-bytes : tie.Need-slice-relend-prefix-bytes
-slice-relend-prefix-bytes c = search needs
+-- src/calls.rt:460:35
+slice-relend-prefix-read-ids : tie.Need-slice-relend-prefix-read-ids
+slice-relend-prefix-read-ids c = search needs
 
--- src/calls.rt:446:22
-slice-aggregate-bytes : tie.Need-slice-aggregate-bytes
-slice-aggregate-bytes c = ?
+-- src/calls.rt:460:35
+slice-aggregate-read-ids : tie.Need-slice-aggregate-read-ids
+slice-aggregate-read-ids c = ?
 
--- src/calls.rt:446:9
-bytes-requires : tie.Need-bytes-requires
-bytes-requires c κs = search needs
+-- src/calls.rt:460:5
+read-ids-requires : tie.Need-read-ids-requires
+read-ids-requires c κs = search needs
 
--- src/calls.rt:447:9
-short-requires-2 : tie.Need-short-requires-2
-short-requires-2 c κs = search needs
-
--- src/calls.rt:447:9
+-- src/calls.rt:452:1
 same-length : tie.Need-same-length
 same-length c = search needs
 
--- src/calls.rt:447:9
+-- src/calls.rt:452:1
 returns-3 : tie.Need-returns-3
 returns-3 c = search needs
-
--- src/calls.rt:449:33
-slice-reshare-prefix-answer : tie.Need-slice-reshare-prefix-answer
-slice-reshare-prefix-answer c = search needs
-
--- src/calls.rt:449:33
-slice-aggregate-answer : tie.Need-slice-aggregate-answer
-slice-aggregate-answer c = ?
-
--- src/calls.rt:449:5
-answer-requires : tie.Need-answer-requires
-answer-requires c κs = search needs
-
--- src/calls.rt:438:1
-same-length-2 : tie.Need-same-length-2
-same-length-2 c = search needs
-
--- src/calls.rt:438:1
-returns-4 : tie.Need-returns-4
-returns-4 c = search needs
 
 pub with-ids-spec : {M : Type 1} → statement M
 with-ids-spec =
@@ -93,14 +68,8 @@ with-ids-spec =
     wide-requires
     large-requires
     returns-2
-    slice-relend-prefix-bytes
-    slice-aggregate-bytes
-    bytes-requires
-    short-requires-2
+    slice-relend-prefix-read-ids
+    slice-aggregate-read-ids
+    read-ids-requires
     same-length
-    returns-3
-    slice-reshare-prefix-answer
-    slice-aggregate-answer
-    answer-requires
-    same-length-2
-    returns-4)
+    returns-3)
