@@ -30,34 +30,19 @@ returns : tie.Need-returns Inv-loop μ-loop
 returns c = tt
 
 mul-out : tie.Need-mul-out Inv-loop μ-loop
-mul-out c = omega (arith, c .before .before .before .before .loop-test .taken, c .before .before .before .before .before .loop .inv, c .before .before .before .before .before .before .slice-known .given)
-
-try-1 : tie.Need-mul-out Inv-loop μ-loop
-try-1 c = omega (arith, c .before .before .before .before .loop-test .taken, c .before .before .before .before .before .loop .inv, c .before .before .before .before .before .before .before .good .0)
-
-try-2 : tie.Need-mul-out Inv-loop μ-loop
-try-2 c = omega (arith, c .before .before .before .before .loop-test .taken, c .before .before .before .before .before .loop .inv, c .before .before .before .before .before .before .before .good .0 .0)
-
-try-3 : tie.Need-mul-out Inv-loop μ-loop
-try-3 c = omega (arith, c .before .before .before .before .loop-test .taken, c .before .before .before .before .before .loop .inv, c .before .before .before .before .before .before .before .good)
-
-try-4 : tie.Need-mul-out Inv-loop μ-loop
-try-4 c = omega (arith, c .before .before .before .before .loop-test .taken, c .before .before .before .before .before .loop .inv, c .before .before .before .before .before .loop .good)
-
-try-5 : tie.Need-mul-out Inv-loop μ-loop
-try-5 c = omega (arith, c .before .before .before .before .loop-test .taken, c .before .before .before .before .before .loop .inv)
+mul-out c = omega (arith, c .before .before .before .before .loop-test .taken, c .before .before .before .before .before .loop .inv)
 
 slice-write-out : tie.Need-slice-write-out Inv-loop μ-loop
 slice-write-out c = omega (arith, c .before .before .before .before .loop-test .taken, c .before .before .before .before .before .loop .inv)
 
 add-i : tie.Need-add-i Inv-loop μ-loop
-add-i c = omega (arith, c .before .before .before .before .loop-test .taken, c .before .before .before .before .before .loop .inv, c .before .before .before .before .before .before .slice-known .given)
+add-i c = omega (arith, c .before .before .before .before .loop-test .taken, c .before .before .before .before .before .loop .inv, c .before .before .before .before .before .before .before .good .0)
 
 loop-less : tie.Need-loop-less Inv-loop μ-loop
 loop-less c = omega (arith, c .before .before .before .before .loop-test .taken, c .before .before .before .before .before .loop .inv)
 
 loop-again : tie.Need-loop-again Inv-loop μ-loop
-loop-again c = simp length-set ∙ c .before .before .before .before .before .loop .inv
+loop-again c = simp (length-set, c .before .before .before .before .before .loop .inv)
 
 same-length-2 : tie.Need-same-length-2 Inv-loop μ-loop
 same-length-2 c = c .before .loop .inv
