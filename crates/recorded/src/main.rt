@@ -1,0 +1,20 @@
+// Replays recorded calls: what a stream of calls on standard input is answered, on standard output. The gate holds it to what was recorded (vectors/README.md).
+// All numbers of the stream are u32, little-endian. A call is 18 of them, then its slices:
+//   what is called: 0 a run, told whole; 1 a run, of which the refusal is told; 2 propagation; 3 a list that is looked up
+//   patterns, width, height, mode, the pattern asked for, the direction asked for
+//   how many weights, offsets, noise words, words, numbers of forbids (three for each) and numbers of starting domains (two for each, the lower half first)
+//   how many domains, support counts, pending removals, floats and marks are lent, at most what this program has
+// then the numbers of those slices in that order, then how many ids there are, and the ids, a byte each.
+// What is printed is lines as in vectors/: `refused N`, `end E USED`, `domains ..`, `choice CELL BITS PATTERN`, `part ..`.
+mod calls;
+mod choices;
+mod input;
+mod print;
+
+// A proved loop has to end, and nothing says that a stream does: the turns are counted down from a number that no run uses up.
+fn main() {
+    let mut turns = u64::MAX;
+    while turns > 0 && calls::next() {
+        turns -= 1;
+    }
+}
