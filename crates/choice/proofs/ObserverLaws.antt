@@ -105,7 +105,7 @@ scan-observed {cells} weighted each q is = rw (each .words, ← is) (ap observed
 
 -- ---- what the scan finds
 
--- cell c comes before cell d: by entropy and then by noise word
+-- cell c comes before cell d: its note is better
 abbrev pub ahead : Notes → ℕ → ℕ → Bool
 ahead v c d = betterThan (noteAt v c) (noteAt v d)
 
