@@ -62,20 +62,24 @@ unfolding join
 join-empty Empty = refl
 join-empty (At c n) = refl
 
+-- the observer's note of a cell is the one that is kept
+pub noteAt-noteOf : {cells c : ℕ} (noise domains : List ℕ) (floats : List Float) (marks : List ℕ) (weighted : ℕ) → c < cells
+    → noteAt (notesIn cells noise domains floats marks weighted) c ≡ noteOf noise cells c floats marks
+noteAt-noteOf {cells} {c} noise domains floats marks weighted h = rw (getD-take cells marks c 0 h, getD-drop cells floats c nan)
+
 -- cell c of what the run keeps, held against the best so far
 module _ {cells c : ℕ} {noise domains marks : List ℕ} {floats : List Float} {n : Note} {t : Bool} (weighted : ℕ) (best : Best)
     (each : Lengths cells noise domains floats marks × (c < cells)) (is : n ≡ noteOf noise cells c floats marks)
     (test : t ≡ valid (n .count) (getD domains c 0) weighted) where
-  -- the note that is read is the observer's
-  of-cell : noteAt (notesIn cells noise domains floats marks weighted) c ≡ n
-  of-cell = rw (getD-take cells marks c 0 (each .1), getD-drop cells floats c nan) (sym is)
+  read : noteAt (notesIn cells noise domains floats marks weighted) c ≡ n
+  read = noteAt-noteOf noise domains floats marks weighted (each .1) ∙ sym is
 
   tested : countsAt (notesIn cells noise domains floats marks weighted) c ≡ t
-  tested = ap (λ m. valid (m .count) (getD domains c 0) weighted) of-cell ∙ sym test
+  tested = ap (λ m. valid (m .count) (getD domains c 0) weighted) read ∙ sym test
 
   pub step-held : {r : Best} → t ≡ true → r ≡ join best (At c n) → r ≡ join best (candidate (notesIn cells noise domains floats marks weighted) c)
   unfolding candidate
-  step-held e q = rw (tested ∙ e) (q ∙ ap (λ m. join best (At c m)) (sym of-cell))
+  step-held e q = rw (tested ∙ e) (q ∙ ap (λ m. join best (At c m)) (sym read))
 
   pub step-passed : t ≡ false → best ≡ join best (candidate (notesIn cells noise domains floats marks weighted) c)
   unfolding candidate
@@ -101,7 +105,7 @@ scan-observed {cells} weighted each q is = rw (each .words, ← is) (ap observed
 
 -- ---- what the scan finds
 
--- cell c comes before cell d: by entropy and then by noise word
+-- cell c comes before cell d: its note is better
 abbrev pub ahead : Notes → ℕ → ℕ → Bool
 ahead v c d = betterThan (noteAt v c) (noteAt v d)
 

@@ -56,7 +56,7 @@ entropyAt v c = noteAt v c .entropy
 abbrev pub countsAt : Notes → ℕ → Bool
 countsAt v c = valid (noteAt v c .count) (getD (v .domains) c 0) (v .mask)
 
--- a note is better than another by its entropy, and then by its noise word
+-- of two notes the better has the lesser entropy, or the same and the lesser noise word
 abbrev pub betterThan : Note → Note → Bool
 betterThan n m = beats (n .entropy) (n .noise) (m .entropy) (m .noise)
 

@@ -13,7 +13,7 @@ use lib.Dec.{leb}
 use lib.Ieee.{Float, nan, lt}
 use lib.ListN.{length, getD, set, take, replicate, length-set}
 use lib.Pow.{pow-mono}
-use lib.Seq.{take-all, take-suc-set, append-snoc}
+use lib.Seq.{getD-set-same, getD-set-other, take-all, take-suc-set, append-snoc}
 use borrow.Author.Tests.{le-leb, leb-true}
 use Rattle.words.specs.Words.{howMany}
 use Rattle.adjacency.specs.Weights.{Weighed, weightOf, weightSum, weighted, mask}
@@ -21,6 +21,7 @@ use Rattle.logarithms.specs.Entropy.{minus, entropy}
 use Rattle.logarithms.specs.Notes.{note, noteOf, lowered}
 use Rattle.logarithms.specs.declared.inner.Note.{Note}
 use Rattle.propagation.specs.Beside.{Beside, beside, weightedIn, lessenedBy, proposes, proposed, written, noted, proposing, unmarked}
+use Rattle.propagation.specs.Lent.{Roomy}
 use Rattle.loops.proofs.TestLaws.{both}
 use Rattle.words.proofs.CountLaws.{many-width, many-none}
 use Rattle.adjacency.proofs.WeightLaws.{true-weighted, false-weighted, zero-weightSum}
@@ -91,6 +92,20 @@ proposed-byte (suc fresh) old e m k h l = rw k (go (lt e (old .entropy)))
     go : (b : Bool) → cond b (note e (old .noise) m) old .count < 256
     go true = l
     go false = h
+
+-- a note that is written is the one that is read
+pub noteOf-written : (noise : List ℕ) {cells c : ℕ} (n : Note) (floats : List Float) (marks : List ℕ) → Roomy cells noise floats marks → c < cells → n .noise ≡ getD noise c 0
+    → let x = written cells c n (beside floats marks) in noteOf noise cells c (x .floats) (x .marks) ≡ n
+unfolding written
+noteOf-written noise {cells} {c} n floats marks room h is =
+    let valued = room .valued in
+    let marked = room .marked in
+    rw (
+      getD-set-same floats (cells + c) (n .entropy) nan (omega arith),
+      getD-set-other (set marks c (n .count)) (cells + c) c 1 0 (λ z. omega arith),
+      getD-set-same marks c (n .count) 0 (omega arith),
+      ← is,
+    )
 
 pub written-noted : (noise : List ℕ) (cells c m : ℕ) (e : Float) (floats : List Float) (marks : List ℕ) {old n : Note} {x : Beside} → old ≡ noteOf noise cells c floats marks
     → n ≡ proposed (getD marks (cells + c) 0) old e m → x ≡ written cells c n (beside floats marks) → x ≡ noted noise cells c e m (beside floats marks)

@@ -1,4 +1,4 @@
--- `propagation::notes::write` meets its contract.
+-- `propagation::notes::write` meets its contract: it writes what the definition writes, in its order.
 -- Assumes nothing.
 use mathlib.Core.Path.{refl}
 use borrow.Author.Needs.{needs}
