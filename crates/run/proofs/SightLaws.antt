@@ -22,7 +22,7 @@ use Rattle.consistency.specs.Start.{start}
 use Rattle.propagation.specs.Beside.{Beside, weightedIn, lessenedBy, lessened, proposes, proposed, noteOf, noted, proposing, kept, unmarked}
 use Rattle.choice.specs.declared.inner.Observed.{Observed}
 use Rattle.choice.specs.declared.inner.Observed.the-variants.{Cell, Nothing}
-use Rattle.choice.specs.Observer.{Notes, observe, Sight, sightOf}
+use Rattle.choice.specs.Observer.{entropyAt, countsAt, observe, Sight, sightOf}
 use Rattle.run.specs.declared.Forbid.{Forbid}
 use Rattle.run.specs.Run.{Given, firstCount, firstEntropy, firstBeside, begun, notesOf, sighted}
 use Rattle.run.specs.Course.{Lawful, Reached}
@@ -31,7 +31,7 @@ use Rattle.adjacency.proofs.WeightLaws.{weightSum-le, weight-light}
 use Rattle.logarithms.proofs.EntropyLaws.{running-number, minus-number, entropy-number}
 use Rattle.logarithms.proofs.NoteLaws.{lowered-number}
 use Rattle.propagation.proofs.BesideLaws.{proposes-weight}
-use Rattle.choice.proofs.ObserverLaws.{Seen, Yields, observed-seen, observed-least}
+use Rattle.choice.proofs.ObserverLaws.{Seen, Yields, observed-seen, observed-least, least-observed}
 use Rattle.run.proofs.StartLaws.{weight-some}
 use Rattle.run.proofs.StateLaws.{reached-stands}
 use Rattle.run.proofs.KeptCourse.{Lasts, holds-reached}
@@ -146,14 +146,22 @@ module _ (i : Given) (fs : List Forbid) (L : Lawful i fs) where
     unfolding begun start
     reached-numbers = holds-reached i (λ D x. Sound (cells (i .grid)) x) sound-lasts (first-sound (cells (i .grid)) (i .weights) (L .weighed .light)) r
 
-    least : (c : ℕ) (e : Float) → observe (notesOf i s) ≡ Cell c e → (j : ℕ) → j < cells (i .grid) → Yields (notesOf i s) c j
+    -- so none that the observer reads is
+    noted-numbers : Numbers (notesOf i s .entropies)
     unfolding notesOf
-    least c e is j h =
-        let n = cells (i .grid) in
-        let S = reached-numbers in
-        observed-least (notesOf i s) is (numbers-drop (s .beside .floats) n (S .numbers))
-        (omega (arith, S .long, length-take n (s .beside .marks), length-drop n (s .beside .floats))) j
-        (omega (arith, reached-stands i fs L r .settled .safe .fit .sized))
+    noted-numbers = numbers-drop (s .beside .floats) (cells (i .grid)) (reached-numbers .numbers)
+
+    noted-each : length (notesOf i s .counts) ≤ length (notesOf i s .entropies)
+    unfolding notesOf
+    noted-each =
+        omega (arith, reached-numbers .long, length-take (cells (i .grid)) (s .beside .marks), length-drop (cells (i .grid)) (s .beside .floats))
+
+    noted-cells : length (notesOf i s .domains) ≡ cells (i .grid)
+    unfolding notesOf
+    noted-cells = reached-stands i fs L r .settled .safe .fit .sized
+
+    least : (c : ℕ) (e : Float) → observe (notesOf i s) ≡ Cell c e → (j : ℕ) → j < cells (i .grid) → Yields (notesOf i s) c j
+    least c e is j h = observed-least (notesOf i s) is noted-numbers noted-each j (omega (arith, h, noted-cells))
 
     -- what a turn observes: a cell whose note counts, with its own entropy, to which every other cell gives way
     pub sighted-least : (x : Sight) → sighted i s ≡ some x
@@ -170,3 +178,10 @@ module _ (i : Given) (fs : List Forbid) (L : Lawful i fs) where
             let of : e ≡ x .entropy = ap (λ (y : Sight). y .entropy) same in
             rw (← at, ← of) (f c e refl)
         go Nothing f q = absurd (Option·none-ne-some x q)
+
+    -- and a cell to which every other gives way is what it observes
+    pub least-sighted : (c : ℕ) → c < cells (i .grid) → countsAt (notesOf i s) c ≡ true → ((j : ℕ) → j < cells (i .grid) → Yields (notesOf i s) c j)
+        → sighted i s ≡ some (record { cell = c; entropy = entropyAt (notesOf i s) c })
+    unfolding sighted sightOf
+    least-sighted c h k yields =
+        ap sightOf (least-observed (notesOf i s) noted-numbers noted-each c (omega (arith, h, noted-cells)) k (λ j l. yields j (omega (arith, l, noted-cells))))
