@@ -2,20 +2,20 @@
 -- noise word, then the least number, of the cells whose notes count. Follows docs/RULES.md, "Run" and "Entropy". Assumes nothing.
 use mathlib.Core.Bool.{Bool, true, false, cond}
 use mathlib.Core.List.{List, _++_}
-use mathlib.Core.Option.{Option, none, some, Option·some-injective, Option·none-ne-some}
-use mathlib.Core.Path.{_≡_, refl, sym, ap, _∙_}
+use mathlib.Core.Option.{some, Option·some-injective, Option·none-ne-some}
+use mathlib.Core.Path.{_≡_, refl, ap}
 use Prim.Native.Nat.{ℕ, zero, suc, _+_, _-_, _*_, _≤_, _<_}
 use native.Mathlib.Decide.{decLt}
 use native.Mathlib.Omega.{arith}
 use lib.Dec.{eqb}
 use lib.Ieee.{Float, binary32, nan, ofBits, isNan}
-use lib.ListN.{length, getD, set, take, drop, replicate, length-set, length-append, length-replicate, length-take, length-drop, List·getD-append}
+use lib.ListN.{length, getD, set, replicate, length-set, length-append, length-replicate, length-take, length-drop, List·getD-append}
 use lib.Seq.{getD-set-same, getD-set-other, getD-append-add}
 use borrow.Author.Tests.{eqb-true, eqb-false}
 use Rattle.order.specs.Numbers.{Number, Numbers}
 use Rattle.adjacency.specs.Weights.{Weighed, weightOf, weightSum, wholeWeight}
 use Rattle.grid.specs.Grid.{cells}
-use Rattle.logarithms.specs.Entropy.{minus, entropy, running}
+use Rattle.logarithms.specs.Entropy.{entropy, running}
 use Rattle.logarithms.specs.declared.inner.Note.{Note}
 use Rattle.consistency.specs.Worklist.{Removal, State}
 use Rattle.consistency.specs.Start.{start}

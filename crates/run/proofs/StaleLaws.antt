@@ -1,7 +1,7 @@
 -- An old note never counts again: along a course a cell's weighted count never rises, and no note's count is below it, so a note that does not count
 -- at a state counts at no later one. Follows docs/RULES.md, "Run". Assumes nothing.
 use mathlib.Core.Bool.{Bool, true, false, cond, true≢false}
-use mathlib.Core.List.{List, [], _∷_, _++_}
+use mathlib.Core.List.{List, [], _∷_}
 use mathlib.Core.Path.{_≡_, refl, sym, ap, _∙_, subst}
 use Prim.Native.Nat.{ℕ, zero, suc, _+_, _-_, _*_, _^_, _≤_, _<_}
 use native.Mathlib.Decide.{ℕ-discrete, decLt}
