@@ -42,7 +42,7 @@ use Rattle.run.proofs.KeptCourse.{Lasts, holds-reached}
 -- ---- weighted counts
 
 -- a part of a word has no more weighted patterns
-weighted-sub : (k v w m : ℕ) → ((p : ℕ) → bit v p ≤ bit w p) → howMany k (bitAnd v m) ≤ howMany k (bitAnd w m)
+pub weighted-sub : (k v w m : ℕ) → ((p : ℕ) → bit v p ≤ bit w p) → howMany k (bitAnd v m) ≤ howMany k (bitAnd w m)
 weighted-sub k v w m h = many-sub k (bitAnd v m) (bitAnd w m) (λ p. rw (bit-and v m p, bit-and w m p) (mul-le-mul (h p) (le-refl (bit m p))))
 
 -- no word has more than there are
@@ -55,7 +55,7 @@ weighted-most ws w = many-sub (length ws) (bitAnd w (mask ws)) (mask ws) (λ p. 
     at (suc (suc a)) b h = absurd (omega arith)
 
 -- a removal leaves a part
-removed-le : (D : List ℕ) (c p m q : ℕ) → possible (removed D c p) m q ≤ possible D m q
+pub removed-le : (D : List ℕ) (c p m q : ℕ) → possible (removed D c p) m q ≤ possible D m q
 unfolding without
 removed-le D c p = sub-le (removed D c p) D (sub-lessened (removal c p ∷ []) D)
 
