@@ -9,8 +9,10 @@ use lib.ListN.{replicate}
 use Rattle.adjacency.specs.Tables.{Table, table}
 use Rattle.grid.specs.Grid.{Grid, grid, cells}
 use Rattle.refusals.specs.Refusals.{answer}
+use Rattle.consistency.specs.Worklist.{Removal, removal}
 use Rattle.run.specs.declared.Forbid.{Forbid}
 use Rattle.run.specs.Asked.{choiceOf}
+use Rattle.run.specs.Course.{lastOf}
 use Rattle.run.specs.Called.{Memory, memory, Outcome, calledOf, called}
 use Rattle.consistency.proofs.Cases.{checker}
 
@@ -111,3 +113,13 @@ cases =
 pub cases-hold : Hold cases × (map (choiceOf (2 ∷ 3 ∷ []) 3) (1 ∷ 2 ∷ 4 ∷ 5 ∷ []) ≡ map some (0 ∷ 1 ∷ 1 ∷ 0 ∷ []))
 unfolding cases found stated choiceOf
 cases-hold = (refl, refl)
+
+-- all that was asked to go in a call, by its forbids and its choices
+gone : Call → List Removal
+unfolding lastOf
+gone k = lastOf (record { table = k .table; weights = k .weights; grid = k .grid; noise = replicate (cells (k .grid)) 0 }) (k .forbids) (k .words) .gone
+
+-- by the forbid of A and that of I, by the choice of G, and nothing in H
+cases-gone : map gone (A ∷ I ∷ G ∷ H ∷ []) ≡ (removal 0 1 ∷ []) ∷ (removal 0 2 ∷ []) ∷ (removal 0 0 ∷ removal 0 2 ∷ []) ∷ [] ∷ []
+unfolding gone
+cases-gone = refl

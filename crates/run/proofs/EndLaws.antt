@@ -11,7 +11,6 @@ use lib.Dec.{eqb}
 use lib.ListN.{length, getD, replicate, length-replicate, getD-replicate}
 use lib.Pow.{pow-mono}
 use borrow.Author.Tests.{eqb-true, eqb-false}
-use Rattle.loops.specs.Tests.{every}
 use Rattle.words.specs.Words.{howMany}
 use Rattle.adjacency.specs.Tables.{inList}
 use Rattle.grid.specs.Grid.{cells, neighbour}

@@ -1,6 +1,5 @@
 -- How a run ends, told of the run itself: what it writes is the greatest consistent subset of full domains less all that was asked to go, and each end
--- is exactly what it says of the last state. A call that is not refused comes to this run (`called-accepted`), and what is not refused is lawful
--- (`called-granted`). Follows docs/RULES.md, "Run" and "Propagation". Assumes nothing.
+-- is exactly what it says of the last state. A call that is not refused is lawful and comes to this run (`called-run`). Follows docs/RULES.md, "Run" and "Propagation". Assumes nothing.
 use mathlib.Core.Bool.{true, false}
 use mathlib.Core.List.{List, _++_}
 use mathlib.Core.Logic.{_↔_}
@@ -10,6 +9,7 @@ use Prim.Native.Nat.{ℕ, suc, _+_, _-_, _≤_, _<_}
 use native.Mathlib.Omega.{arith}
 use lib.ListN.{length, getD, replicate}
 use Rattle.words.specs.Words.{howMany}
+use Rattle.refusals.specs.Refusals.{firstOf}
 use Rattle.adjacency.specs.Tables.{inList}
 use Rattle.grid.specs.Grid.{cells, neighbour}
 use Rattle.consistency.specs.Domains.{possible, emptied, settledAs}
@@ -20,8 +20,10 @@ use Rattle.choice.specs.Observer.{countsAt}
 use Rattle.run.specs.declared.Forbid.{Forbid}
 use Rattle.run.specs.Run.{Given, begun, laidAll, notesOf, Turn, turn, runOf}
 use Rattle.run.specs.Course.{Lawful, fullLess, wanted, turnedOff, Reached, forbade, chose, removals, Final, Last, last, lastFrom, lastOf}
+use Rattle.run.specs.Called.{Memory, testsOf, finished, calledOf}
 use Rattle.run.proofs.CourseLaws.{reached-counted, run-final}
 use Rattle.run.proofs.EndLaws.{end-most, end-written, end-settled, end-greatest, end-decided, end-undecided, end-paused, end-contradiction, decided-means, contradiction-means}
+use Rattle.run.proofs.CalledLaws.{called-granted, called-accepted}
 
 -- ---- the last state
 
@@ -127,3 +129,10 @@ module _ (i : Given) (fs : List Forbid) (L : Lawful i fs) (words : List ℕ) whe
   -- and then every domain is written as zero
   pub run-zero : runOf i fs words .end ≡ 3 → runOf i fs words .domains ≡ replicate (cells (i .grid)) 0
   run-zero = contradiction-means i fs L words (run-final i fs L words)
+
+-- ---- the call
+
+-- where nothing is refused, what is given is lawful, and the call comes to the run: it tells the run's end and words, and leaves the run's domains
+pub called-run : (lent : ℕ) (i : Given) (fs : List Forbid) (words : List ℕ) (m : Memory) → firstOf (testsOf lent i fs m) ≡ 0
+    → Lawful i fs × (calledOf lent i fs words m ≡ finished (runOf i fs words) m)
+called-run lent i fs words m e = (called-granted lent i fs m e .lawful, called-accepted lent i fs words m e)

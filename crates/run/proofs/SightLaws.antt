@@ -2,27 +2,28 @@
 -- noise word, then the least number, of the cells whose notes count. Follows docs/RULES.md, "Run" and "Entropy". Assumes nothing.
 use mathlib.Core.Bool.{Bool, true, false, cond}
 use mathlib.Core.List.{List, _++_}
-use mathlib.Core.Option.{Option, none, some, Option·some-injective, Option·none-ne-some}
-use mathlib.Core.Path.{_≡_, refl, sym, ap, _∙_}
+use mathlib.Core.Option.{some, Option·some-injective, Option·none-ne-some}
+use mathlib.Core.Path.{_≡_, refl, ap}
 use Prim.Native.Nat.{ℕ, zero, suc, _+_, _-_, _*_, _≤_, _<_}
 use native.Mathlib.Decide.{decLt}
 use native.Mathlib.Omega.{arith}
 use lib.Dec.{eqb}
 use lib.Ieee.{Float, binary32, nan, ofBits, isNan}
-use lib.ListN.{length, getD, set, take, drop, replicate, length-set, length-append, length-replicate, length-take, length-drop, List·getD-append}
+use lib.ListN.{length, getD, set, replicate, length-set, length-append, length-replicate, length-take, length-drop, List·getD-append}
 use lib.Seq.{getD-set-same, getD-set-other, getD-append-add}
 use borrow.Author.Tests.{eqb-true, eqb-false}
 use Rattle.order.specs.Numbers.{Number, Numbers}
 use Rattle.adjacency.specs.Weights.{Weighed, weightOf, weightSum, wholeWeight}
 use Rattle.grid.specs.Grid.{cells}
-use Rattle.logarithms.specs.Entropy.{minus, entropy, running}
+use Rattle.logarithms.specs.Entropy.{entropy, running}
+use Rattle.logarithms.specs.Notes.{noteOf}
 use Rattle.logarithms.specs.declared.inner.Note.{Note}
 use Rattle.consistency.specs.Worklist.{Removal, State}
 use Rattle.consistency.specs.Start.{start}
-use Rattle.propagation.specs.Beside.{Beside, weightedIn, lessenedBy, lessened, proposes, proposed, noteOf, noted, proposing, kept, unmarked}
+use Rattle.propagation.specs.Beside.{Beside, weightedIn, lessenedBy, lessened, proposes, proposed, written, noted, proposing, kept, unmarked}
 use Rattle.choice.specs.declared.inner.Observed.{Observed}
 use Rattle.choice.specs.declared.inner.Observed.the-variants.{Cell, Nothing}
-use Rattle.choice.specs.Observer.{Notes, observe, Sight, sightOf}
+use Rattle.choice.specs.Observer.{entropyAt, countsAt, observe, Sight, sightOf}
 use Rattle.run.specs.declared.Forbid.{Forbid}
 use Rattle.run.specs.Run.{Given, firstCount, firstEntropy, firstBeside, begun, notesOf, sighted}
 use Rattle.run.specs.Course.{Lawful, Reached}
@@ -31,7 +32,7 @@ use Rattle.adjacency.proofs.WeightLaws.{weightSum-le, weight-light}
 use Rattle.logarithms.proofs.EntropyLaws.{running-number, minus-number, entropy-number}
 use Rattle.logarithms.proofs.NoteLaws.{lowered-number}
 use Rattle.propagation.proofs.BesideLaws.{proposes-weight}
-use Rattle.choice.proofs.ObserverLaws.{Seen, Yields, observed-seen, observed-least}
+use Rattle.choice.proofs.ObserverLaws.{Seen, Yields, observed-seen, observed-least, least-observed}
 use Rattle.run.proofs.StartLaws.{weight-some}
 use Rattle.run.proofs.StateLaws.{reached-stands}
 use Rattle.run.proofs.KeptCourse.{Lasts, holds-reached}
@@ -80,12 +81,12 @@ module _ (n : ℕ) where
       }
 
   sound-noted : (noise : List ℕ) (c : ℕ) (e : Float) (m : ℕ) (x : Beside) → (n + c < length (x .floats) → Number e) → Sound n x → Sound n (noted noise n c e m x)
-  unfolding noted
+  unfolding noted written
   sound-noted noise c e m x E S =
       record {
         numbers =
             numbers-put (x .floats) (n + c) _
-            (λ h. proposed-number (getD (x .marks) (n + c) 0) (noteOf noise n c x) e m (E h) (S .numbers .at (n + c) h)) (S .numbers);
+            (λ h. proposed-number (getD (x .marks) (n + c) 0) (noteOf noise n c (x .floats) (x .marks)) e m (E h) (S .numbers .at (n + c) h)) (S .numbers);
         long = simp length-set (S .long);
       }
 
@@ -146,14 +147,22 @@ module _ (i : Given) (fs : List Forbid) (L : Lawful i fs) where
     unfolding begun start
     reached-numbers = holds-reached i (λ D x. Sound (cells (i .grid)) x) sound-lasts (first-sound (cells (i .grid)) (i .weights) (L .weighed .light)) r
 
-    least : (c : ℕ) (e : Float) → observe (notesOf i s) ≡ Cell c e → (j : ℕ) → j < cells (i .grid) → Yields (notesOf i s) c j
+    -- so none that the observer reads is
+    noted-numbers : Numbers (notesOf i s .entropies)
     unfolding notesOf
-    least c e is j h =
-        let n = cells (i .grid) in
-        let S = reached-numbers in
-        observed-least (notesOf i s) is (numbers-drop (s .beside .floats) n (S .numbers))
-        (omega (arith, S .long, length-take n (s .beside .marks), length-drop n (s .beside .floats))) j
-        (omega (arith, reached-stands i fs L r .settled .safe .fit .sized))
+    noted-numbers = numbers-drop (s .beside .floats) (cells (i .grid)) (reached-numbers .numbers)
+
+    noted-each : length (notesOf i s .counts) ≤ length (notesOf i s .entropies)
+    unfolding notesOf
+    noted-each =
+        omega (arith, reached-numbers .long, length-take (cells (i .grid)) (s .beside .marks), length-drop (cells (i .grid)) (s .beside .floats))
+
+    noted-cells : length (notesOf i s .domains) ≡ cells (i .grid)
+    unfolding notesOf
+    noted-cells = reached-stands i fs L r .settled .safe .fit .sized
+
+    least : (c : ℕ) (e : Float) → observe (notesOf i s) ≡ Cell c e → (j : ℕ) → j < cells (i .grid) → Yields (notesOf i s) c j
+    least c e is j h = observed-least (notesOf i s) is noted-numbers noted-each j (omega (arith, h, noted-cells))
 
     -- what a turn observes: a cell whose note counts, with its own entropy, to which every other cell gives way
     pub sighted-least : (x : Sight) → sighted i s ≡ some x
@@ -170,3 +179,10 @@ module _ (i : Given) (fs : List Forbid) (L : Lawful i fs) where
             let of : e ≡ x .entropy = ap (λ (y : Sight). y .entropy) same in
             rw (← at, ← of) (f c e refl)
         go Nothing f q = absurd (Option·none-ne-some x q)
+
+    -- and a cell to which every other gives way is what it observes
+    pub least-sighted : (c : ℕ) → c < cells (i .grid) → countsAt (notesOf i s) c ≡ true → ((j : ℕ) → j < cells (i .grid) → Yields (notesOf i s) c j)
+        → sighted i s ≡ some (record { cell = c; entropy = entropyAt (notesOf i s) c })
+    unfolding sighted sightOf
+    least-sighted c h k yields =
+        ap sightOf (least-observed (notesOf i s) noted-numbers noted-each c (omega (arith, h, noted-cells)) k (λ j l. yields j (omega (arith, l, noted-cells))))

@@ -19,7 +19,7 @@ use Rattle.propagation.specs.Lent.{pendingOf, stateOf, Lent, Roomy, Room, Groun
 use Rattle.run.specs.declared.Forbid.{Forbid}
 use Rattle.run.specs.declared.Answer.the-variants.{Contradiction, Refused}
 use Rattle.run.specs.declared.collapse.Stop.{Stop}
-use Rattle.run.specs.Run.{Given, begun, asked, laid, Ended, collapse, runOf}
+use Rattle.run.specs.Run.{Given, begun, asked, laid, Ended, collapse}
 use Rattle.run.specs.Course.{fullLess, wanted}
 use Rattle.run.specs.Called as calls
 use Rattle.run.specs.Called.{Memory, roomOf, Opened, baseTests, testsOf, forbidTests, End, answerTold, Outcome, outcome, cleared, finished}

@@ -1,0 +1,222 @@
+-- One note for each cell decides: a note of an earlier state that would count now is the cell's note still, for a new one is written only after a weighted
+-- pattern went from the cell. Follows docs/RULES.md, "Run" and "Propagation". Assumes nothing.
+use mathlib.Core.Bool.{Bool, true, false, cond}
+use mathlib.Core.List.{List}
+use mathlib.Core.Logic.{_⊎_, inl, inr}
+use mathlib.Core.Path.{_≡_, refl, sym, _∙_, subst}
+use Prim.Native.Nat.{ℕ, zero, suc, _+_, _-_, _*_, _≤_, _<_}
+use native.Mathlib.Decide.{ℕ-discrete, decLt}
+use native.Mathlib.Nat.{le-refl, mul-le-mul}
+use native.Mathlib.Omega.{arith}
+use lib.Bits.{bitAnd}
+use lib.Ieee.{Float, nan}
+use lib.ListN.{length, getD, set, take, replicate, length-set, length-append, length-replicate, length-take, List·getD-append}
+use lib.Seq.{getD-set-other, getD-take, getD-drop}
+use Rattle.words.specs.Words.{bit, howMany}
+use Rattle.adjacency.specs.Weights.{weightOf, weightSum, weighted, mask}
+use Rattle.grid.specs.Grid.{cells}
+use Rattle.logarithms.specs.Entropy.{entropy}
+use Rattle.consistency.specs.Domains.{possible, removed}
+use Rattle.consistency.specs.Worklist.{Removal, removal, State, forbids}
+use Rattle.consistency.specs.Start.{others}
+use Rattle.consistency.specs.Safe.{Inside}
+use Rattle.propagation.specs.Beside.{Beside, weightedIn, lessenedBy, lessened, proposes, noted, proposing, kept, unmarked}
+use Rattle.choice.specs.Observer.{valid, entropyAt}
+use Rattle.run.specs.declared.Forbid.{Forbid}
+use Rattle.run.specs.Run.{Given, reducedBy, notesOf}
+use Rattle.run.specs.Course.{Lawful, Reached, forbade, chose}
+use Rattle.loops.proofs.SumLaws.{sum-less}
+use Rattle.words.proofs.BitLaws.{bit-and}
+use Rattle.adjacency.proofs.WeightLaws.{weight-inside, weighted-true, weight-mask}
+use Rattle.consistency.proofs.RemovalLaws.{others-inside}
+use Rattle.consistency.proofs.Keep.{removed-less, safe-forbids}
+use Rattle.consistency.proofs.Settled.{Ready}
+use Rattle.consistency.proofs.SettledLaws.{safe-beside}
+use Rattle.propagation.proofs.BesideLaws.{proposes-weight, weighted-64}
+use Rattle.choice.proofs.ObserverLaws.{valid-counts}
+use Rattle.run.proofs.TurnLaws.{turn-on}
+use Rattle.run.proofs.StateLaws.{reached-stands, reached-ready}
+use Rattle.run.proofs.KeptLaws.{Endures, Holds, endures-forbids, endures-propagated}
+use Rattle.run.proofs.StaleLaws.{weighted-sub, removed-le, reached-above, reached-one}
+
+-- ---- a weighted pattern goes
+
+-- fewer weighted patterns where one of them goes
+weighted-less : (k v w m p : ℕ) → p < k → ((q : ℕ) → bit v q ≤ bit w q) → bit v p ≡ 0 → bit w p ≡ 1 → bit m p ≡ 1 → howMany k (bitAnd v m) < howMany k (bitAnd w m)
+unfolding howMany
+weighted-less k v w m p l h gone was in-mask =
+    sum-less k (bit (bitAnd v m)) (bit (bitAnd w m)) p l
+    (λ q _. rw (bit-and v m q, bit-and w m q) (mul-le-mul (h q) (le-refl (bit m q))))
+    (rw (bit-and v m p, bit-and w m p, gone, was, in-mask) (omega arith))
+
+removed-weighted : (ws D : List ℕ) (c p : ℕ) → possible D c p ≡ 1 → weighted ws p ≡ true → weightedIn ws (getD (removed D c p) c 0) < weightedIn ws (getD D c 0)
+removed-weighted ws D c p h e =
+    let weight = weighted-true ws p e in
+    weighted-less (length ws) (getD (removed D c p) c 0) (getD D c 0) (mask ws) p (weight-inside ws p weight) (removed-le D c p c) (removed-less D c p h .gone) h
+    (weight-mask ws p weight)
+
+-- ---- since an earlier state
+
+-- of n cells: no pattern is restored, and each has the note that it had, or fewer weighted patterns
+record Since (ws : List ℕ) (n : ℕ) (D₀ : List ℕ) (x₀ : Beside) (D : List ℕ) (x : Beside) : Type 0 where
+  part : (c p : ℕ) → possible D c p ≤ possible D₀ c p
+  long : length (x .marks) ≡ 2 * n
+  held : (c : ℕ) → c < n
+      → ((getD (x .marks) c 0 ≡ getD (x₀ .marks) c 0) × (getD (x .floats) (n + c) nan ≡ getD (x₀ .floats) (n + c) nan))
+      ⊎ (weightedIn ws (getD D c 0) < weightedIn ws (getD D₀ c 0))
+
+module _ (ws : List ℕ) (n : ℕ) (D₀ : List ℕ) (x₀ : Beside) where
+  -- the note of cell c is the same
+  abbrev Same : ℕ → Beside → Type 0
+  Same c x = (getD (x .marks) c 0 ≡ getD (x₀ .marks) c 0) × (getD (x .floats) (n + c) nan ≡ getD (x₀ .floats) (n + c) nan)
+
+  since-removed : (u : Removal) (D : List ℕ) (x : Beside) → Since ws n D₀ x₀ D x → Since ws n D₀ x₀ (removed D (u .cell) (u .pattern)) x
+  since-removed u D x S = record { part = λ c p. omega (arith, S .part c p, removed-le D (u .cell) (u .pattern) c p); long = S .long; held = λ c h. at c (S .held c h) }
+    where
+      E : List ℕ
+      E = removed D (u .cell) (u .pattern)
+
+      at : (c : ℕ) → Same c x ⊎ (weightedIn ws (getD D c 0) < weightedIn ws (getD D₀ c 0)) → Same c x ⊎ (weightedIn ws (getD E c 0) < weightedIn ws (getD D₀ c 0))
+      at c (inl same) = inl same
+      at c (inr less) = inr (omega (arith, less, weighted-sub (length ws) (getD E c 0) (getD D c 0) (mask ws) (removed-le D (u .cell) (u .pattern) c)))
+
+  since-lessened : (w c : ℕ) (D : List ℕ) (x : Beside) → c < n → Since ws n D₀ x₀ D x → Since ws n D₀ x₀ D (lessenedBy w c x)
+  unfolding lessenedBy
+  since-lessened zero c D x l S = S
+  since-lessened (suc w) c D x l S = record { part = S .part; long = S .long; held = λ m h. at m (S .held m h) }
+    where
+      at : (m : ℕ) → Same m x ⊎ (weightedIn ws (getD D m 0) < weightedIn ws (getD D₀ m 0))
+          → Same m (lessenedBy (suc w) c x) ⊎ (weightedIn ws (getD D m 0) < weightedIn ws (getD D₀ m 0))
+      at m (inl (count, value)) = inl (count, getD-set-other (x .floats) c (n + m) _ nan (λ y. omega (arith, l, y)) ∙ value)
+      at m (inr less) = inr less
+
+  module _ (noise : List ℕ) (D : List ℕ) (x : Beside) (S : Since ws n D₀ x₀ D x) (c : ℕ) where
+    since-noted : (e : Float) (k : ℕ) → weightedIn ws (getD D c 0) < weightedIn ws (getD D₀ c 0) → Since ws n D₀ x₀ D (noted noise n c e k x)
+    unfolding noted
+    since-noted e k fewer = record { part = S .part; long = simp length-set (S .long); held = λ m h. at m h (ℕ-discrete m c) (S .held m h) }
+      where
+        at : (m : ℕ) → m < n → Dec (m ≡ c) → Same m x ⊎ (weightedIn ws (getD D m 0) < weightedIn ws (getD D₀ m 0))
+            → Same m (noted noise n c e k x) ⊎ (weightedIn ws (getD D m 0) < weightedIn ws (getD D₀ m 0))
+        at m h (yes z) s = inr (subst (λ (j : ℕ). weightedIn ws (getD D j 0) < weightedIn ws (getD D₀ j 0)) (sym z) fewer)
+        at m h (no z) (inr less) = inr less
+        at m h (no z) (inl (count, value)) =
+            inl (
+              getD-set-other (set (x .marks) c _) (n + c) m 1 0 (λ y. omega (arith, h, y)) ∙ getD-set-other (x .marks) c m _ 0 z ∙ count,
+              getD-set-other (x .floats) (n + c) (n + m) _ nan (λ y. z (omega (arith, y))) ∙ value,
+            )
+
+    since-proposing : (p : ℕ) → (weighted ws p ≡ true → weightedIn ws (getD D c 0) < weightedIn ws (getD D₀ c 0))
+        → Since ws n D₀ x₀ D (proposing ws noise n c p (getD D c 0) x)
+    unfolding proposing
+    since-proposing p fewer = go (proposes ws p (getD D c 0)) refl
+      where
+        e : Float
+        e = entropy (weightSum ws (getD D c 0)) (getD (x .floats) c nan)
+
+        go : (b : Bool) → proposes ws p (getD D c 0) ≡ b → Since ws n D₀ x₀ D (cond b (noted noise n c e (weightedIn ws (getD D c 0)) x) x)
+        go true t = since-noted e (weightedIn ws (getD D c 0)) (fewer (proposes-weight ws p (getD D c 0) t .0))
+        go false t = S
+
+  since-asked : (P : ℕ) → Endures P n (lessened ws) (Since ws n D₀ x₀)
+  unfolding lessened
+  since-asked P u D x l h S = since-lessened (weightOf ws (u .pattern)) (u .cell) _ x l (since-removed u D x S)
+
+  since-kept : (P : ℕ) (noise : List ℕ) → Endures P n (kept ws noise n) (Since ws n D₀ x₀)
+  unfolding kept lessened
+  since-kept P noise u D x l h S =
+      since-proposing noise (removed D (u .cell) (u .pattern)) _ (since-lessened (weightOf ws (u .pattern)) (u .cell) _ x l (since-removed u D x S)) (u .cell) (u .pattern)
+      (λ e.
+      omega
+      (arith, removed-weighted ws D (u .cell) (u .pattern) h e, weighted-sub (length ws) (getD D (u .cell) 0) (getD D₀ (u .cell) 0) (mask ws) (S .part (u .cell))))
+
+  since-renewed : (D : List ℕ) (x : Beside) → Since ws n D₀ x₀ D x → Since ws n D₀ x₀ D (unmarked n x)
+  unfolding unmarked
+  since-renewed D x S =
+      record {
+        part = S .part;
+        long = omega (arith, S .long, length-append (take n (x .marks)) zeros, length-take n (x .marks), length-replicate {A = ℕ} (length (x .marks) - n) 0);
+        held = λ c h. at c h (S .held c h);
+      }
+    where
+      zeros : List ℕ
+      zeros = replicate (length (x .marks) - n) 0
+
+      at : (c : ℕ) → c < n → Same c x ⊎ (weightedIn ws (getD D c 0) < weightedIn ws (getD D₀ c 0))
+          → Same c (unmarked n x) ⊎ (weightedIn ws (getD D c 0) < weightedIn ws (getD D₀ c 0))
+      at c h (inl (count, value)) =
+          inl (List·getD-append (take n (x .marks)) zeros 0 c (omega (arith, h, S .long, length-take n (x .marks))) ∙ getD-take n (x .marks) c 0 h ∙ count, value)
+      at c h (inr less) = inr less
+
+-- ---- along a course
+
+module _ (i : Given) (fs : List Forbid) (L : Lawful i fs) (D₀ : List ℕ) (x₀ : Beside) where
+  abbrev Then : State Beside → Type 0
+  Then s = Since (i .weights) (cells (i .grid)) D₀ x₀ (s .domains) (s .beside)
+
+  since-reduced : (us : List Removal) (s : State Beside) → Inside (i .table .count) (cells (i .grid)) us → Ready (i .table) (i .grid) s → Then s → Then (reducedBy i us s)
+  unfolding reducedBy
+  since-reduced us s h R S =
+      let P = i .table .count in
+      let n = cells (i .grid) in
+      let r = forbids P (lessened (i .weights)) us s in
+      endures-propagated (i .table) (i .grid) (L .accepted) (kept (i .weights) (i .noise) n) (Since (i .weights) n D₀ x₀) (since-kept (i .weights) n D₀ x₀ P (i .noise)) (n * P) _
+      (safe-beside r (unmarked n (r .beside)) P n (n * P) (safe-forbids P n (n * P) (lessened (i .weights)) us s h (R .safe)))
+      (since-renewed (i .weights) n D₀ x₀ (r .domains) (r .beside)
+      (endures-forbids P n (n * P) (lessened (i .weights)) (Since (i .weights) n D₀ x₀) (since-asked (i .weights) n D₀ x₀ P) us s h S))
+
+module _ (i : Given) (fs : List Forbid) (L : Lawful i fs) (words : List ℕ) {k used : ℕ} {s : State Beside} (r : Reached i fs words k used s) where
+  -- since a state that is reached, at a later one
+  abbrev Later : State Beside → Type 0
+  Later = Then i fs L (s .domains) (s .beside)
+
+  since-itself : Later s
+  since-itself = record { part = λ c p. le-refl _; long = reached-above i r .long; held = λ c h. inl (refl, refl) }
+
+  since-equal : {k′ used′ : ℕ} {s′ : State Beside} → k ≡ k′ → Reached i fs words k′ used′ s′ → Later s′
+  since-equal z r′ = subst Later (reached-one i fs words (subst (λ (j : ℕ). Reached i fs words j used s) z r) r′ .1) since-itself
+
+  since-reached : {k′ used′ : ℕ} {s′ : State Beside} → Reached i fs words k′ used′ s′ → k ≤ k′ → Later s′
+  since-reached forbade h = since-equal (omega (arith, h)) forbade
+  since-reached (chose {k = k″} {used = u} {more = m} {s = a} {s′ = b} r′ q) h =
+      let c = turn-on i words u a q in
+      let inside = others-inside (i .table .count) (cells (i .grid)) (c .cell) (c .pattern) (omega (arith, c .inside, reached-stands i fs L r′ .settled .safe .fit .sized)) in
+      go (decLt k (suc k″))
+      (λ l.
+      rw (c .made)
+      (since-reduced i fs L (s .domains) (s .beside) (others (i .table .count) (c .cell) (c .pattern)) a inside (reached-ready i fs L r′ (c .whole)) (since-reached r′ l)))
+    where
+      go : Dec (k < suc k″) → (k ≤ k″ → Later b) → Later b
+      go (yes l) f = f (omega (arith, l))
+      go (no l) f = since-equal (omega (arith, h, l)) (chose {k = k″} {used = u} {more = m} {s = a} {s′ = b} r′ q)
+
+  -- a note that would count at a later state is the cell's note there
+  pub note-held : {k′ used′ : ℕ} {s′ : State Beside} → Reached i fs words k′ used′ s′ → k ≤ k′ → (c : ℕ) → c < cells (i .grid)
+      → valid (getD (notesOf i s .counts) c 0) (getD (s′ .domains) c 0) (mask (i .weights)) ≡ true
+      → (getD (notesOf i s′ .counts) c 0 ≡ getD (notesOf i s .counts) c 0) × (entropyAt (notesOf i s′) c ≡ entropyAt (notesOf i s) c)
+  unfolding notesOf
+  note-held {s′ = s′} r′ l c h e = go (since-reached r′ l .held c h)
+    where
+      n : ℕ
+      n = cells (i .grid)
+
+      count : ℕ
+      count = getD (take n (s .beside .marks)) c 0
+
+      go : Same (i .weights) n (s .domains) (s .beside) c (s′ .beside) ⊎ (weightedIn (i .weights) (getD (s′ .domains) c 0) < weightedIn (i .weights) (getD (s .domains) c 0))
+          → (getD (take n (s′ .beside .marks)) c 0 ≡ count) × (entropyAt (notesOf i s′) c ≡ entropyAt (notesOf i s) c)
+      go (inl (same, value)) = (
+        getD-take n (s′ .beside .marks) c 0 h ∙ same ∙ sym (getD-take n (s .beside .marks) c 0 h),
+        getD-drop n (s′ .beside .floats) c nan ∙ value ∙ sym (getD-drop n (s .beside .floats) c nan),
+      )
+      go (inr less) =
+          let C = valid-counts count (getD (s′ .domains) c 0) (mask (i .weights)) e in
+          let is = getD-take n (s .beside .marks) c 0 h in
+          absurd
+          (omega (
+            arith,
+            less,
+            C .weighted,
+            is,
+            weighted-64 (L .weighed) (L .accepted .few) (getD (s′ .domains) c 0) (reached-stands i fs L r′ .settled .safe .fit .words c),
+            reached-above i r .above c h (λ z. C .noted (is ∙ z)),
+          ))
