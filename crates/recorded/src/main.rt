@@ -1,4 +1,7 @@
-// Replays recorded calls: what a stream of calls on standard input is answered, on standard output. The gate holds it to what was recorded (vectors/README.md).
+// Replays recorded calls: what a stream of calls on standard input is answered, on standard output. The gate compares that with what was recorded
+// (vectors/README.md): of 374 runs every end, count of words and domain, and every choice's cell, entropy bits and pattern; of 106 further runs the number of the
+// refusal; of 6 propagations that and the domains; of 8 lists that are looked up that and the part. The choices come from a second pass (src/choices.rt), and where
+// that pass leads elsewhere than the run, a line says so. A stream that is cut off ends with a line that says so.
 // All numbers of the stream are u32, little-endian. A call is 18 of them, then its slices:
 //   what is called: 0 a run, told whole; 1 a run, of which the refusal is told; 2 propagation; 3 a list that is looked up
 //   patterns, width, height, mode, the pattern asked for, the direction asked for
