@@ -17,7 +17,7 @@ use Rattle.adjacency.specs.Weights.{weightOf, weightSum, weighted, mask}
 use Rattle.grid.specs.Grid.{cells}
 use Rattle.logarithms.specs.Entropy.{entropy}
 use Rattle.consistency.specs.Domains.{possible, removed}
-use Rattle.consistency.specs.Worklist.{Removal, removal, State, forbids}
+use Rattle.consistency.specs.Worklist.{Removal, State, forbids}
 use Rattle.consistency.specs.Start.{others}
 use Rattle.consistency.specs.Safe.{Inside}
 use Rattle.propagation.specs.Beside.{Beside, weightedIn, lessenedBy, lessened, proposes, noted, proposing, kept, unmarked}
@@ -36,7 +36,7 @@ use Rattle.propagation.proofs.BesideLaws.{proposes-weight, weighted-64}
 use Rattle.choice.proofs.ObserverLaws.{valid-counts}
 use Rattle.run.proofs.TurnLaws.{turn-on}
 use Rattle.run.proofs.StateLaws.{reached-stands, reached-ready}
-use Rattle.run.proofs.KeptLaws.{Endures, Holds, endures-forbids, endures-propagated}
+use Rattle.run.proofs.KeptLaws.{Endures, endures-forbids, endures-propagated}
 use Rattle.run.proofs.StaleLaws.{weighted-sub, removed-le, reached-above, reached-one}
 
 -- ---- a weighted pattern goes
