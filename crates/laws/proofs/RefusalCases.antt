@@ -8,10 +8,10 @@ use lib.ListN.{replicate}
 use Rattle.refusals.specs.Refusals.{firstOf}
 use Rattle.adjacency.specs.Tables.{Table, table}
 use Rattle.grid.specs.Grid.{Grid, grid}
 use Rattle.run.specs.declared.Forbid.{Forbid}
 use Rattle.run.specs.Called.{Memory, memory, testsOf, runTests, recordsIn, forbidsOf}
 use Rattle.consistency.proofs.Cases.{checker}
-use Rattle.run.proofs.Cases.{forbid, keepOnly}
+use Rattle.laws.proofs.Cases.{forbid, keepOnly}
 
 -- the number of the refusal, 0 where the call is accepted; the noise words are 0
 refusal : Table → List ℕ → Grid → ℕ → List Forbid → Memory → ℕ

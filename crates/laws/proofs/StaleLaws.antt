@@ -26,19 +26,19 @@ use Rattle.consistency.specs.Start.{start}
 use Rattle.consistency.specs.Parts.{lessened as without}
 use Rattle.propagation.specs.Beside.{Beside, weightedIn, lessenedBy, lessened, proposes, proposed, written, noted, proposing, kept, unmarked}
 use Rattle.choice.specs.Observer.{valid, countsAt}
 use Rattle.run.specs.declared.Forbid.{Forbid}
 use Rattle.run.specs.Run.{Given, firstCount, firstBeside, begun, notesOf, Turn, turn}
 use Rattle.run.specs.Course.{Lawful, Reached, forbade, chose}
 use Rattle.words.proofs.BitLaws.{bit-and, bit-lt}
 use Rattle.words.proofs.CountLaws.{many-sub}
 use Rattle.consistency.proofs.DomainLaws.{sub-le}
 use Rattle.consistency.proofs.LessenedLaws.{sub-lessened}
 use Rattle.propagation.proofs.BesideLaws.{weighted-64}
 use Rattle.choice.proofs.ObserverLaws.{valid-counts}
 use Rattle.run.proofs.TurnLaws.{turn-on}
 use Rattle.run.proofs.StateLaws.{reached-stands}
 use Rattle.run.proofs.CourseLaws.{chosen-sub}
-use Rattle.run.proofs.KeptCourse.{Lasts, holds-reached}
+use Rattle.laws.proofs.KeptCourse.{Lasts, holds-reached}
 
 -- ---- weighted counts
 

@@ -34,10 +34,10 @@ use Rattle.consistency.proofs.Settled.{Ready}
 use Rattle.consistency.proofs.SettledLaws.{safe-beside}
 use Rattle.propagation.proofs.BesideLaws.{proposes-weight, weighted-64}
 use Rattle.choice.proofs.ObserverLaws.{valid-counts}
 use Rattle.run.proofs.TurnLaws.{turn-on}
 use Rattle.run.proofs.StateLaws.{reached-stands, reached-ready}
-use Rattle.run.proofs.KeptLaws.{Endures, endures-forbids, endures-propagated}
-use Rattle.run.proofs.StaleLaws.{weighted-sub, removed-le, reached-above, reached-one}
+use Rattle.laws.proofs.KeptLaws.{Endures, endures-forbids, endures-propagated}
+use Rattle.laws.proofs.StaleLaws.{weighted-sub, removed-le, reached-above, reached-one}
 
 -- ---- a weighted pattern goes
 

@@ -24,18 +24,18 @@ use Rattle.propagation.specs.Beside.{Beside, weightedIn, lessenedBy, lessened, 
 use Rattle.choice.specs.declared.inner.Observed.{Observed}
 use Rattle.choice.specs.declared.inner.Observed.the-variants.{Cell, Nothing}
 use Rattle.choice.specs.Observer.{entropyAt, countsAt, observe, Sight, sightOf}
 use Rattle.run.specs.declared.Forbid.{Forbid}
 use Rattle.run.specs.Run.{Given, firstCount, firstEntropy, firstBeside, begun, notesOf, sighted}
 use Rattle.run.specs.Course.{Lawful, Reached}
 use Rattle.order.proofs.ListLaws.{numbers-same, numbers-drop}
 use Rattle.adjacency.proofs.WeightLaws.{weightSum-le, weight-light}
 use Rattle.logarithms.proofs.EntropyLaws.{running-number, minus-number, entropy-number}
 use Rattle.logarithms.proofs.NoteLaws.{lowered-number}
 use Rattle.propagation.proofs.BesideLaws.{proposes-weight}
 use Rattle.choice.proofs.ObserverLaws.{Seen, Yields, observed-seen, observed-least, least-observed}
 use Rattle.run.proofs.StartLaws.{weight-some}
 use Rattle.run.proofs.StateLaws.{reached-stands}
-use Rattle.run.proofs.KeptCourse.{Lasts, holds-reached}
+use Rattle.laws.proofs.KeptCourse.{Lasts, holds-reached}
 
 -- ---- lists of numbers
 

@@ -1,0 +1,12 @@
+pub mod AskedCases
+pub mod RunLaws
+pub mod KeptLaws
+pub mod KeptCourse
+pub mod SightLaws
+pub mod StaleLaws
+pub mod HeldLaws
+pub mod WordsLaws
+pub mod ForbidLaws
+pub mod Cases
+pub mod RefusalCases
+pub mod ShutOut
