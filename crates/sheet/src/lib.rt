@@ -8,8 +8,11 @@ use refusals::Refusal;
 
 mod check;
 mod reading;
+mod result;
 mod shape;
 mod writing;
+
+pub use result::run_result;
 
 // How much a sheet holds: patterns, ids, the grid, and forbids.
 pub struct Measures {
