@@ -4,7 +4,7 @@ ghost use mathlib.Core.List.{[], _∷_};
 ghost use Prim.Native.Nat.{ℕ, _+_, _*_, _≤_, _<_};
 ghost use lib.ListN.{length, getD, drop};
 ghost use lib.Seq.{sets};
-ghost use Rattle.records.specs.Numbers.{u16, u16s, u16At, u32At, numbersIn};
+ghost use Rattle.records.specs.Numbers.{u16, u32, u64, u16s, u64s, u16At, u32At, numbersIn};
 ghost use Rattle.records.specs.Records.{headOf, Framed, begins, payloadOf, restOf};
 ghost use Rattle.records.specs.Laying.{pen, laid};
 
@@ -105,6 +105,13 @@ fn plain(x: u32) -> usize
     x as usize
 }
 
+// A word as a number; no bit is lost, since an index has 64.
+fn whole(x: u64) -> usize
+    ensures { λ r. ⌜ (r ≡ x) × (r < 18446744073709551616) ⌝ }
+{
+    x as usize
+}
+
 // One byte.
 pub fn lay_byte(number: usize, out: &mut [u8], at: usize) -> usize
     requires { ⌜ (number < 256) × (at + 1 ≤ length (now out)) ⌝ }
@@ -124,14 +131,32 @@ pub fn lay_u16(number: usize, out: &mut [u8], at: usize) -> usize
     at + 2
 }
 
+// A number as four bytes.
+fn lay_u32(number: usize, out: &mut [u8], at: usize) -> usize
+    requires { ⌜ (number < 4294967296) × (at + 4 ≤ length (now out)) ⌝ }
+    ensures { λ r. ⌜ pen (now (out .exit)) r ≡ laid (u32 number) (pen (now (out .entry)) at) ⌝ }
+{
+    let place = lay_u16(number % 65536, out, at);
+    lay_u16(number / 65536, out, place)
+}
+
+// A word as eight bytes.
+fn lay_u64(word: u64, out: &mut [u8], at: usize) -> usize
+    requires { ⌜ at + 8 ≤ length (now out) ⌝ }
+    ensures { λ r. ⌜ pen (now (out .exit)) r ≡ laid (u64 word) (pen (now (out .entry)) at) ⌝ }
+{
+    let number = whole(word);
+    let place = lay_u32(number % 4294967296, out, at);
+    lay_u32(number / 4294967296, out, place)
+}
+
 // The head of a record whose payload has `size` bytes.
 pub fn lay_head(kind: usize, size: usize, out: &mut [u8], at: usize) -> usize
     requires { ⌜ (kind < 65536) × (size < 4294967294) × (at + 6 ≤ length (now out)) ⌝ }
     ensures { λ r. ⌜ pen (now (out .exit)) r ≡ laid (headOf kind size) (pen (now (out .entry)) at) ⌝ }
 {
-    let low = lay_u16((2 + size) % 65536, out, at);
-    let high = lay_u16((2 + size) / 65536, out, low);
-    lay_u16(kind, out, high)
+    let place = lay_u32(2 + size, out, at);
+    lay_u16(kind, out, place)
 }
 
 // Bytes as they are.
@@ -156,6 +181,20 @@ pub fn lay_numbers(numbers: &[u32], out: &mut [u8], at: usize) -> usize
     let mut i = 0;
     while i < numbers.len() {
         place = lay_u16(plain(numbers[i]), out, place);
+        i += 1;
+    }
+    place
+}
+
+// Words as eight bytes each.
+pub fn lay_words(words: &[u64], out: &mut [u8], at: usize) -> usize
+    requires { ⌜ at + 8 * length (now words) ≤ length (now out) ⌝ }
+    ensures { λ r. ⌜ pen (now (out .exit)) r ≡ laid (u64s (now (words .entry))) (pen (now (out .entry)) at) ⌝ }
+{
+    let mut place = at;
+    let mut i = 0;
+    while i < words.len() {
+        place = lay_u64(words[i], out, place);
         i += 1;
     }
     place

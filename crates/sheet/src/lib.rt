@@ -9,6 +9,9 @@ use refusals::Refusal;
 
 mod check;
 mod reading;
+mod result;
+
+pub use result::run_result;
 
 // How much a sheet holds: patterns, ids, the grid, and forbids.
 pub struct Measures {
