@@ -7,13 +7,12 @@
 //
 // A program cannot end with a status of its own: what went wrong is one sentence on standard error, and nothing is written.
 mod files;
-mod lay;
 mod parts;
 mod show;
 
+use bounded::inner::Ground;
+use bounded::inner::Taken;
 use command::arguments::Plan;
-use lay::Ground;
-use lay::Measured;
 
 // The seed of the practice ocean.
 const SEED: u32 = 7;
@@ -88,10 +87,10 @@ fn laid_from_files(plan: Plan, sheet: &[u8], ground: Ground) {
 
 // Measures a sheet and lays it.
 fn laid(plan: Plan, named: bool, sheet: &[u8]) {
-    match lay::measure(sheet) {
-        Measured::Refused(number) => show::refused(number),
-        Measured::TooLarge => show::too_large(),
-        Measured::Sheet(ground) => {
+    match bounded::inner::measure(sheet) {
+        Taken::Refused(number) => show::refused(number as usize),
+        Taken::TooLarge => show::too_large(),
+        Taken::Sheet(ground) => {
             if plan.seeded {
                 laid_from_seed(plan, named, plan.seed, sheet, ground);
             } else if named {

@@ -1,9 +1,8 @@
 // What the person is shown: a chart, a picture, or one sentence.
 use crate::files;
-use crate::lay;
-use crate::lay::Ground;
-use crate::lay::Laid;
 use crate::parts::domains_of;
+use bounded::inner::Ground;
+use bounded::inner::Laid;
 use command::arguments::Plan;
 use libc::STDERR_FILENO;
 use libc::STDOUT_FILENO;
@@ -136,13 +135,13 @@ pub fn run(plan: Plan, named: bool, sheet: &[u8], ground: Ground, noise: &[u32],
     let cells = ground.cells;
     let mut domains = [0u64; 1024];
     let mut bytes = [0u8; 8206];
-    match lay::run(sheet, cells, noise, words, &mut domains, &mut bytes) {
-        Laid::Refused(number) => refused(number),
+    match bounded::inner::lay(sheet, noise, words, &mut domains, &mut bytes) {
+        Laid::Refused(number) => refused(number as usize),
         Laid::Ended(end, used, length) => laid(
             plan,
             named,
             ground,
-            end,
+            end as usize,
             used,
             domains_of(&domains, cells),
             &bytes,
