@@ -48,8 +48,8 @@ fn rest(size: usize, sheet: &[u8]) -> bool {
     true
 }
 
-// Answers the next case, and whether there may be another.
-pub(crate) fn next(sheet: &mut [u8]) -> bool {
+// Reads a case, its sheet into the memory that is lent, and answers it.
+fn next_in(sheet: &mut [u8]) -> bool {
     match input::number() {
         Next::End => false,
         Next::Short => cut_off(),
@@ -60,4 +60,10 @@ pub(crate) fn next(sheet: &mut [u8]) -> bool {
             rest(size, sheet)
         }
     }
+}
+
+// Answers the next case, and whether there may be another.
+pub(crate) fn next() -> bool {
+    let mut sheet = [0u8; 41376];
+    next_in(&mut sheet)
 }

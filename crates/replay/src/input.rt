@@ -38,7 +38,7 @@ pub(crate) fn bytes(out: &mut [u8]) -> bool {
 }
 
 // Reads past as many of the bytes that are left as the buffer takes, and answers how many are left then.
-fn pass(left: usize, buffer: &mut [u8]) -> usize
+fn pass_in(left: usize, buffer: &mut [u8]) -> usize
     ensures { λ r. ⌜ r ≤ left ⌝ }
 {
     let many = least(left, buffer.len());
@@ -46,13 +46,20 @@ fn pass(left: usize, buffer: &mut [u8]) -> usize
     left - least(got, left)
 }
 
+// The same, of up to 4,096 bytes.
+fn pass(left: usize) -> usize
+    ensures { λ r. ⌜ r ≤ left ⌝ }
+{
+    let mut buffer = [0u8; 4096];
+    pass_in(left, &mut buffer)
+}
+
 // Reads past so many bytes, and answers whether the input had them.
 pub(crate) fn skip(many: usize) -> bool {
-    let mut buffer = [0u8; 4096];
     let mut left = many;
     while left > 0 {
-        let next = pass(left, &mut buffer);
-        if next == left {
+        let next = pass(left);
+        if next >= left {
             return false;
         }
         left = next;
@@ -66,27 +73,38 @@ fn narrow(x: usize) -> u32
     x as u32
 }
 
-// The numbers of four bytes each, as many as there is room for.
+// Number i of the numbers of four bytes each, 0 past the last.
+fn number_at(bytes: &[u8], i: usize) -> u32 {
+    if i < bytes.len() / 4 {
+        return narrow(u32_at(bytes, 4 * i));
+    }
+    0
+}
+
+// All of them.
 fn unpack(bytes: &[u8], out: &mut [u32]) {
     let mut i = 0;
-    while i < bytes.len() / 4 {
-        if i < out.len() {
-            out[i] = narrow(u32_at(bytes, 4 * i));
-        }
+    while i < out.len() {
+        out[i] = number_at(bytes, i);
         i += 1;
     }
 }
 
-// The first 1,025 of so many numbers; the rest is read past. Answers whether the input had them all.
-pub(crate) fn numbers(many: usize, out: &mut [u32]) -> bool {
-    let mut raw = [0u8; 4100];
-    let kept = least(many, 1025);
+// As many of the numbers as the bytes have room for; the rest is read past. Answers whether the input had them all.
+fn numbers_in(many: usize, raw: &mut [u8], out: &mut [u32]) -> bool {
+    let kept = least(many, raw.len() / 4);
     let end = 4 * kept;
     if !bytes(&mut raw[..end]) {
         return false;
     }
-    unpack(&raw[..end], out);
+    unpack(raw, out);
     skip_words(many - kept)
+}
+
+// The first 1,025 of so many numbers.
+pub(crate) fn numbers(many: usize, out: &mut [u32]) -> bool {
+    let mut raw = [0u8; 4100];
+    numbers_in(many, &mut raw, out)
 }
 
 // Reads past so many numbers; a count has 32 bits.

@@ -1,4 +1,5 @@
 // A sheet is read and run, and its answer told. Lent memory is of this program's size; the library refuses what does not fit.
+ghost use Prim.Native.Nat.{_≤_};
 use crate::input::least;
 use libc::STDOUT_FILENO;
 use records::inner::lay_u16;
@@ -11,6 +12,13 @@ pub(crate) fn tell(number: usize) {
     let mut bytes = [0u8; 2];
     lay_u16(least(number, 65535), &mut bytes, 0);
     io::write_all(STDOUT_FILENO, &bytes);
+}
+
+// A product; neither number is over 1,024 in a sheet that is accepted.
+fn times(a: usize, b: usize) -> usize
+    ensures { λ r. ⌜ r ≤ 1048576 ⌝ }
+{
+    least(a, 1024) * least(b, 1024)
 }
 
 fn plain(x: u32) -> usize {
@@ -54,7 +62,7 @@ fn run_in(
     marks: &mut [u8],
     out: &mut [u8],
 ) -> usize {
-    let work = least(cells, 1024) * least(m.count, 64);
+    let work = times(cells, m.count);
     let d = least(cells, domains.len());
     let c = least(4 * work, counts.len());
     let p = least(work, pending.len());
@@ -126,51 +134,62 @@ fn with_parts(
     noise: &[u32],
     words: &[u32],
 ) {
-    let cells = least(m.width, 64) * least(m.height, 64);
-    if 4096 < cells * least(m.count, 64) {
+    let cells = times(m.width, m.height);
+    if 4096 < times(cells, m.count) {
         tell(65535);
         return;
     }
+    let w = least(m.count, weights.len());
+    let o = least(4 * least(m.count, 64) + 1, offsets.len());
     let i = least(m.ids, ids.len());
     let f = least(3 * least(m.forbids, 4096), forbids.len());
     run_told(
         cells,
         &forbids[..f],
         m,
-        weights,
-        offsets,
+        &weights[..w],
+        &offsets[..o],
         &ids[..i],
         noise,
         words,
     );
 }
 
-// Reads a sheet of so many patterns and runs it.
+// Reads a sheet of so many patterns into the memory that it is lent, and runs it.
+fn read_in(
+    count: usize,
+    sheet: &[u8],
+    noise: &[u32],
+    words: &[u32],
+    weights: &mut [u32],
+    offsets: &mut [u32],
+    ids: &mut [u8],
+    forbids: &mut [u32],
+) {
+    let w = least(count, weights.len());
+    let o = least(4 * least(count, 64) + 1, offsets.len());
+    match sheet::read(sheet, &mut weights[..w], &mut offsets[..o], ids, forbids) {
+        SizesAnswer::Refused(refusal) => tell(plain(refusals::inner::number(refusal))),
+        SizesAnswer::Sheet(m) => with_parts(m, weights, offsets, ids, forbids, noise, words),
+    }
+}
+
+// Memory for the longest sheet.
 fn with_sheet(count: usize, sheet: &[u8], noise: &[u32], words: &[u32]) {
     let mut weights = [0u32; 64];
     let mut offsets = [0u32; 257];
     let mut ids = [0u8; 41376];
     let mut forbids = [0u32; 12288];
-    let w = least(count, 64);
-    let o = 4 * w + 1;
-    match sheet::read(
+    read_in(
+        count,
         sheet,
-        &mut weights[..w],
-        &mut offsets[..o],
+        noise,
+        words,
+        &mut weights,
+        &mut offsets,
         &mut ids,
         &mut forbids,
-    ) {
-        SizesAnswer::Refused(refusal) => tell(plain(refusals::inner::number(refusal))),
-        SizesAnswer::Sheet(m) => with_parts(
-            m,
-            &weights[..w],
-            &offsets[..o],
-            &ids,
-            &forbids,
-            noise,
-            words,
-        ),
-    }
+    );
 }
 
 // Answers a case.

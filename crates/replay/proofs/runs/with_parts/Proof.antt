@@ -1,69 +1,65 @@
+-- `replay::runs::with_parts` is safe: the parts that are lent are there.
+-- Assumes nothing.
+use mathlib.Core.Path.{sym}
+use lib.Seq.{length-take-le}
 use borrow.Author.Needs.{needs}
 use Rattle.replay.proofs.runs.with_parts.Statement.{statement}
 use Rattle.replay.proofs.runs.with_parts.Tie as tie
-use Rattle.replay.proofs.runs.with_parts.Reads as reads
-use Rattle.replay.proofs.runs.with_parts.Lts as lts
-use Rattle.replay.proofs.input.least.Reads as least-reads
-use Rattle.replay.proofs.runs.run_told.Reads as run-told-reads
-use Rattle.replay.proofs.runs.tell.Reads as tell-reads
 
--- src/runs.rt:129:17
-least-requires : tie.Need-least-requires
-least-requires c κs = search needs
+times-requires : tie.Need-times-requires
+times-requires c κs = search needs
 
--- src/runs.rt:129:38
-least-requires-2 : tie.Need-least-requires-2
-least-requires-2 c κs = search needs
+times-requires-2 : tie.Need-times-requires-2
+times-requires-2 c κs = search needs
 
--- src/runs.rt:129:17
-mul-cells : tie.Need-mul-cells
-mul-cells c = ?
-
--- src/runs.rt:130:23
-least-requires-3 : tie.Need-least-requires-3
-least-requires-3 c κs = search needs
-
--- src/runs.rt:130:15
-mul-if1 : tie.Need-mul-if1
-mul-if1 c = ?
-
--- src/runs.rt:131:9
 tell-requires : tie.Need-tell-requires
 tell-requires c κs = search needs
 
--- src/runs.rt:132:9
 returns : tie.Need-returns
 returns c = search needs
 
--- src/runs.rt:134:9
-least-requires-4 : tie.Need-least-requires-4
-least-requires-4 c κs = search needs
+least-requires : tie.Need-least-requires
+least-requires c κs = search needs
 
--- src/runs.rt:135:23
-least-requires-5 : tie.Need-least-requires-5
-least-requires-5 c κs = search needs
+least-requires-2 : tie.Need-least-requires-2
+least-requires-2 c κs = search needs
 
--- src/runs.rt:135:19
 mul-least : tie.Need-mul-least
 mul-least c = search needs
 
--- src/runs.rt:135:9
+add-least : tie.Need-add-least
+add-least c = search needs
+
+least-requires-3 : tie.Need-least-requires-3
+least-requires-3 c κs = search needs
+
+least-requires-4 : tie.Need-least-requires-4
+least-requires-4 c κs = search needs
+
+least-requires-5 : tie.Need-least-requires-5
+least-requires-5 c κs = search needs
+
+mul-least-2 : tie.Need-mul-least-2
+mul-least-2 c = search needs
+
 least-requires-6 : tie.Need-least-requires-6
 least-requires-6 c κs = search needs
 
--- src/runs.rt:138:9
 slice-aggregate-run-told : tie.Need-slice-aggregate-run-told
-slice-aggregate-run-told c = ?
+slice-aggregate-run-told c = sym (length-take-le _ _ (c .before .least6 .ensures .1))
 
--- src/runs.rt:142:9
 slice-aggregate-run-told-2 : tie.Need-slice-aggregate-run-told-2
-slice-aggregate-run-told-2 c = ?
+slice-aggregate-run-told-2 c = sym (length-take-le _ _ (c .before .before .before .before .before .before .before .least .ensures .1))
 
--- src/runs.rt:136:5
+slice-aggregate-run-told-3 : tie.Need-slice-aggregate-run-told-3
+slice-aggregate-run-told-3 c = sym (length-take-le _ _ (c .before .before .before .before .before .before .least3 .ensures .1))
+
+slice-aggregate-run-told-4 : tie.Need-slice-aggregate-run-told-4
+slice-aggregate-run-told-4 c = sym (length-take-le _ _ (c .before .before .before .before .before .before .least4 .ensures .1))
+
 run-told-requires : tie.Need-run-told-requires
 run-told-requires c κs = search needs
 
--- src/runs.rt:120:1
 returns-2 : tie.Need-returns-2
 returns-2 c = search needs
 
@@ -71,18 +67,22 @@ pub with-parts-spec : {M : Type 1} → statement M
 with-parts-spec =
     tie.close
     (tie.spec
-    least-requires
-    least-requires-2
-    mul-cells
-    least-requires-3
-    mul-if1
+    times-requires
+    times-requires-2
     tell-requires
     returns
+    least-requires
+    least-requires-2
+    mul-least
+    add-least
+    least-requires-3
     least-requires-4
     least-requires-5
-    mul-least
+    mul-least-2
     least-requires-6
     slice-aggregate-run-told
     slice-aggregate-run-told-2
+    slice-aggregate-run-told-3
+    slice-aggregate-run-told-4
     run-told-requires
     returns-2)
