@@ -1,8 +1,9 @@
 #!/usr/bin/env python3
-"""Writes crates/recorded/stdin and stdout from vectors/: the calls that were recorded, and what must be printed of each.
+"""Writes stdin and stdout of the programs recorded and replay from vectors/: what was recorded, and what must be answered to it.
 
-Run from the repository's root. What the stream is, crates/recorded/src/main.rt says. Every answer is as recorded, but for what is left of
-starting domains where propagation is not refused: the greatest consistent subset, computed here from its definition."""
+Run from the repository's root. What the streams are, crates/recorded/src/main.rt and crates/replay/src/main.rt say. Every answer is as
+recorded, but for what is left of starting domains where propagation is not refused: the greatest consistent subset, computed here from its
+definition; and for what only replay refuses."""
 from struct import pack
 
 RUN, REFUSAL, PROPAGATE, LOOKUP = range(4)
@@ -95,13 +96,80 @@ def told(call, case):
     return refused
 
 
+# ---- replay: sheets with noise and words
+
+LONGEST, LARGEST, TOO_LARGE = 41376, 4096, 65535
+
+
+def u16s(ns):
+    return pack(f"<{len(ns)}H", *ns)
+
+
+def record(kind, payload):
+    return pack("<IH", 2 + len(payload), kind) + payload
+
+
+def sheet_bytes(case):
+    """The sheet of a case, as recorded or from its numbers."""
+    if "sheet" in case:
+        start, _, more = case["sheet"].partition(" * ")
+        many, _, tail = more.partition(" ")
+        return bytes.fromhex(start) + bytes.fromhex(tail) * int(many or 0)
+    offsets, ids, forbids = numbers(case, "offsets"), numbers(case, "ids"), numbers(case, "forbids")
+    weights = numbers(case, "weights")
+    lists = b"".join(bytes([end - start, *ids[start:end]]) for start, end in zip(offsets, offsets[1:]))
+    kept = [n if i % 3 < 2 else min(n, 1) for i, n in enumerate(forbids)]
+    return (record(1, u16s([len(weights), *weights])) + record(2, lists) + record(3, u16s(numbers(case, "grid"))) + record(4, u16s(kept)))
+
+
+def result_bytes(case):
+    """The result of a case, as recorded or from its numbers."""
+    if "result" in case:
+        return bytes.fromhex(case["result"])
+    domains = numbers(case, "domains")
+    return record(5, u16s(numbers(case, "end")) + pack(f"<{len(domains)}Q", *domains))
+
+
+def replayed(sheet, noise, words):
+    """The bytes of a case."""
+    return b"".join([pack("<I", len(sheet)), sheet, *(pack(f"<I{len(ns)}I", len(ns), *ns) for ns in (noise, words))])
+
+
+def done(case):
+    """What an accepted case is answered."""
+    width, height, _ = numbers(case, "grid")
+    (count,) = numbers(case, "patterns")
+    return u16s([TOO_LARGE]) if width * height * count > LARGEST else u16s([0]) + result_bytes(case)
+
+
+def read_only(case):
+    """What a sheet without noise is answered: its refusal, or that of the noise."""
+    return u16s([TOO_LARGE if len(sheet_bytes(case)) > LONGEST else int(case["refused"]) or 5])
+
+
+def replay():
+    runs = [case for name in ("runs", "large", "rules_only", "sheets") for case in blocks(name)]
+    cases = [(replayed(sheet_bytes(c), numbers(c, "noise"), numbers(c, "words")), done(c)) for c in runs]
+    cases += [(replayed(sheet_bytes(c), [], []), read_only(c)) for c in blocks("refusals") if c["call"] == "read"]
+    # words past those that a run can use are read past; so are noise words and a sheet that are more than this program has room for
+    whole = next(c for c in runs if c.get("end", "2")[0] != "2" and numbers(c, "words"))
+    sheet, noise, words = sheet_bytes(whole), numbers(whole, "noise"), numbers(whole, "words")
+    cases += [(replayed(sheet, noise, words + [7] * 5000), done(whole)), (replayed(sheet, noise * 5000, words), u16s([5]))]
+    cases += [(replayed(bytes(LONGEST + 1), noise, words), u16s([TOO_LARGE])), (replayed(sheet, noise, words), done(whole))]
+    cut = replayed(sheet, noise, words)[:-1]
+    open("crates/replay/stdin", "wb").write(b"".join(stream for stream, _ in cases) + cut)
+    open("crates/replay/stdout", "wb").write(b"".join(answer for _, answer in cases))
+    print(f"replay: {len(cases)} cases and one that is cut off")
+
+
 def main():
     calls = [(RUN, case) for name in ("runs", "large", "rules_only") for case in blocks(name)]
     kinds = {"run": REFUSAL, "propagate": PROPAGATE, "lookup": LOOKUP}
     calls += [(kinds[case["call"]], case) for case in blocks("refusals") if case["call"] in kinds]
     open("crates/recorded/stdin", "wb").write(b"".join(stream(*call) for call in calls))
     open("crates/recorded/stdout", "w").write("".join(told(*call) for call in calls))
-    print(f"{len(calls)} calls")
+    print(f"recorded: {len(calls)} calls")
 
 
 main()
+replay()

@@ -4,14 +4,17 @@ use mathlib.Core.Bool.{true}
 use mathlib.Core.List.{List, [], _∷_, _++_}
 use mathlib.Core.Path.{_≡_, refl}
 use Prim.Native.Nat.{ℕ}
+use lib.Ieee.{binary32, ofBits}
 use lib.ListN.{take, drop, replicate}
 use Rattle.refusals.specs.Refusals.{refused, answer}
 use Rattle.adjacency.specs.Tables.{table}
 use Rattle.grid.specs.Grid.{grid}
-use Rattle.run.specs.Run.{ended}
+use Rattle.run.specs.Run.{given, ended}
+use Rattle.run.specs.Called.{memory}
 use Rattle.layout.specs.Sheet.{Sheet, sheet, bytesOf}
 use Rattle.layout.specs.Reading.{wellFormed, sheetIn}
-use Rattle.sheet.specs.Result.{resultOf}
+use Rattle.layout.specs.Tables.{tableOf}
+use Rattle.sheet.specs.Result.{resultOf, ResultOutcome, resultCalled}
 use Rattle.layout.specs.Lending.{lent}
 use Rattle.sheet.specs.Called.{sizesAsked, readOutcome, readCalled, writeOutcome, writeCalled}
 
@@ -36,8 +39,11 @@ unfolding wellFormed sheetIn
 smallest-read = (refl, refl)
 
 -- its result: Decided, no words, pattern 0: 0E000000 0500 0000 0000 0100000000000000
-pub smallest-result : resultOf (ended 0 0 (1 ∷ []))
-    ≡ 0x0E ∷ 0x00 ∷ 0x00 ∷ 0x00 ∷ 0x05 ∷ 0x00 ∷ 0x00 ∷ 0x00 ∷ 0x00 ∷ 0x00 ∷ 0x01 ∷ 0x00 ∷ 0x00 ∷ 0x00 ∷ 0x00 ∷ 0x00 ∷ 0x00 ∷ 0x00 ∷ []
+abbrev pub smallestResult : List ℕ
+smallestResult =
+    0x0E ∷ 0x00 ∷ 0x00 ∷ 0x00 ∷ 0x05 ∷ 0x00 ∷ 0x00 ∷ 0x00 ∷ 0x00 ∷ 0x00 ∷ 0x01 ∷ 0x00 ∷ 0x00 ∷ 0x00 ∷ 0x00 ∷ 0x00 ∷ 0x00 ∷ 0x00 ∷ []
+
+pub smallest-result : resultOf (ended 0 0 (1 ∷ [])) ≡ smallestResult
 unfolding resultOf
 smallest-result = refl
 
@@ -104,3 +110,15 @@ pub empty-refused : readCalled
     ≡ readOutcome (refused 3) (lent [] [] [] [])
 unfolding readCalled
 empty-refused = refl
+
+-- its run, with an output of so many sevens
+abbrev smallestRun : ℕ → ResultOutcome
+smallestRun n =
+    resultCalled (given (tableOf smallest) (1 ∷ []) (grid 1 1 0) (0 ∷ [])) [] []
+    (memory (7 ∷ []) (replicate 4 7) (7 ∷ []) (replicate 2 (ofBits binary32 0)) (replicate 2 7)) (replicate n 7)
+
+-- an output of 20 bytes keeps the last two; one of 17 is too short, and stays
+pub smallest-run : (smallestRun 20 .run .told ≡ answer (record { end = 0; used = 0 })) × (smallestRun 20 .out ≡ smallestResult ++ (7 ∷ 7 ∷ []))
+    × (smallestRun 17 .run .told ≡ refused 5) × (smallestRun 17 .out ≡ replicate 17 7)
+unfolding resultCalled tableOf
+smallest-run = (refl, refl, refl, refl)
