@@ -1,4 +1,4 @@
-//! Changes one line of the published wfc.rs, and finds the static library of Murghidossu.
+//! Changes one line of the published wfc.rs, and finds the static libraries of Murghidossu.
 
 use std::{env, fs, path::Path};
 
@@ -20,7 +20,7 @@ fn main() {
     let root = env::var("CARGO_MANIFEST_DIR").expect("this folder");
     let archives = format!("{}/../target/staticlib", root);
     println!("cargo:rustc-link-search=native={}", archives);
-    for name in ["ocean_c"].iter() {
+    for name in ["ocean_c", "trace_c"].iter() {
         println!("cargo:rustc-link-lib=static={}", name);
         println!("cargo:rerun-if-changed={}/lib{}.a", archives, name);
     }

@@ -5,6 +5,7 @@
 //!     compare two                    every table of two patterns on small grids
 //!     compare three                  every table of three patterns on 2 by 2
 //!     compare file PATH              the cases of a file
+//!     compare findings SEED          the smallest cases that show where the Rust gives no ground
 //!     compare show COUNT SEED        writes random cases, as a file holds them, with the Rust's answers
 //!
 //! Several may follow each other. Status 0: no difference. Status 1: one, which is told.
@@ -19,11 +20,16 @@ use std::time::Instant;
 #[derive(Default)]
 struct Figures {
     cases: u64,
+    modes: [u64; 4],
+    /// by the shorter side, up to 3
+    sides: [u64; 4],
+    patterns: u64,
     ends: [u64; 4],
     choices: u64,
     refused: [u64; 12],
     against_rust: u64,
     silent: u64,
+    silent_by_choice: u64,
     equal_noise: u64,
     equal_noise_apart: u64,
     panicked: u64,
@@ -41,11 +47,6 @@ fn differs(case: &Case, figures: &mut Figures) -> Option<String> {
         Err(why) => return Some(format!("Murghidossu: {}\n", why)),
     };
     let ruled = rules::told(case);
-    let mut mine = mine;
-    // a run tells its end alone, so its choices are taken to be those of the rules
-    if let (Told::Ended(mine), Told::Ended(ruled)) = (&mut mine, &ruled) {
-        mine.choices = ruled.choices.clone();
-    }
     if mine != ruled {
         return Some(apart("docs/RULES.md:", &ruled, &mine));
     }
@@ -55,6 +56,9 @@ fn differs(case: &Case, figures: &mut Figures) -> Option<String> {
             None
         }
         Told::Ended(mine) => {
+            figures.modes[case.mode] += 1;
+            figures.sides[case.width.min(case.height).min(4) - 1] += 1;
+            figures.patterns |= 1 << (case.count - 1);
             figures.ends[mine.end as usize] += 1;
             figures.choices += mine.choices.len() as u64;
             against_rust(case, &mine, figures)
@@ -75,6 +79,7 @@ fn against_rust(case: &Case, mine: &Ended, figures: &mut Figures) -> Option<Stri
     if let Some(used) = rust.silent {
         // here an empty cell is a contradiction, at the word that emptied it
         figures.silent += 1;
+        figures.silent_by_choice += (used > 0) as u64;
         figures.panicked += rust.panicked as u64;
         let contradicted = mine.end == CONTRADICTION
             && mine.used == used
@@ -111,13 +116,40 @@ fn tell(what: &str, figures: &Figures, began: Instant) {
     let [decided, undecided, paused, contradiction] = figures.ends;
     println!("  ends: {} Decided, {} Undecided, {} Paused, {} Contradiction; {} choices", decided, undecided, paused, contradiction, figures.choices);
     println!(
-        "  compared with the Rust: {}; outside its grounds: {} where it empties a cell unnoticed ({} of them end in a panic), {} with equal noise words ({} of them end otherwise)",
-        figures.against_rust, figures.silent, figures.panicked, figures.equal_noise, figures.equal_noise_apart
+        "  accepted: {} of mode 0, {} of 1, {} of 2, {} of 3; shorter side 1 in {}, 2 in {}, 3 in {}; {} different numbers of patterns",
+        figures.modes[0], figures.modes[1], figures.modes[2], figures.modes[3], figures.sides[0], figures.sides[1], figures.sides[2], figures.patterns.count_ones()
+    );
+    println!(
+        "  compared with the Rust: {}; outside its grounds: {} where it empties a cell unnoticed ({} of them by a choice; {} end in a panic), {} with equal noise words ({} of them end otherwise)",
+        figures.against_rust, figures.silent, figures.silent_by_choice, figures.panicked, figures.equal_noise, figures.equal_noise_apart
     );
     let refused: Vec<String> = (1..12).filter(|&n| figures.refused[n] > 0).map(|n| format!("{} of number {}", figures.refused[n], n)).collect();
     if !refused.is_empty() {
         println!("  refused: {}", refused.join(", "));
     }
+}
+
+/// The smallest case that shows something, from the first random one that does.
+fn finding(what: &str, seed: u64, shows: &mut dyn FnMut(&Case) -> bool) {
+    let found = (0..10_000).map(|k| generate::random(seed, k)).find(|case| shows(case));
+    match found {
+        None => println!("{}: none in 10,000 cases of seed {}\n", what, seed),
+        Some(case) => {
+            let least = minimise::minimise(&case, shows);
+            println!("{}\n{}the Rust:\n{}docs/RULES.md:\n{}", what, least, probe::run(&least).ended, rules::told(&least));
+        }
+    }
+}
+
+fn findings(seed: u64) {
+    let accepted = |case: &Case| rules::refusal(case) == 0;
+    let silent = |case: &Case| if accepted(case) && case.distinct_noise() { probe::run(case).silent } else { None };
+    finding("A cell emptied, unnoticed by the Rust", seed, &mut |case| silent(case).is_some());
+    // the hash map is seeded anew in each run, so one run may not show it
+    finding("Equal noise words", seed, &mut |case| {
+        let told = |case| Told::Ended(probe::run(case).ended);
+        accepted(case) && !case.distinct_noise() && (0..20).any(|_| told(case) != rules::told(case))
+    });
 }
 
 /// Every table of so many patterns on these grids, in all four modes, with each of these weights.
@@ -161,6 +193,7 @@ fn main() {
                 }
                 tell(&format!("{}, seed {}", what, seed), &figures, began);
             }
+            "findings" => findings(number("seed")),
             "show" => {
                 let (count, seed) = (number("count"), number("seed"));
                 for k in 0..count {
@@ -191,7 +224,7 @@ fn main() {
         }
     }
     if !asked {
-        eprintln!("compare: random COUNT SEED, damaged COUNT SEED, two, three, file PATH, show COUNT SEED");
+        eprintln!("compare: random COUNT SEED, damaged COUNT SEED, two, three, file PATH, findings SEED, show COUNT SEED");
         exit(2);
     }
 }
