@@ -57,6 +57,6 @@ choiceTold-injective (Refused r) (Pattern q) e = cc
 choiceTold-injective (Refused r) Nothing e = cc
 choiceTold-injective (Refused r) (Refused s) e = ap Refused (number-injective r s (cc))
 
--- two calls of `choice_of` with the same words are told the same
+-- two answers of `choice_of` that meet its contract are the same
 pub choice-of-unique : (P : ℕ) (ws : List ℕ) (w word : ℕ) (a b : Choice) → choiceTold a ≡ choiceAsked P ws w word → choiceTold b ≡ choiceAsked P ws w word → a ≡ b
 choice-of-unique P ws w word a b e f = choiceTold-injective a b (e ∙ sym f)

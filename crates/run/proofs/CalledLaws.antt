@@ -62,7 +62,7 @@ lengths-granted P n weights offsets noise forbids r e =
     let (each, offset) = neither (weightsMisfit P weights) (offsetsMisfit P offsets) rest in
     (each, offset, long _ _ noises, room, ltb-false 4096 forbids few)
 
-passed-placed : (t : Table) (g : Grid) (fs : List Forbid) → Passed (forbidTests t g fs) → Placed (t .count) (cells g) fs
+pub passed-placed : (t : Table) (g : Grid) (fs : List Forbid) → Passed (forbidTests t g fs) → Placed (t .count) (cells g) fs
 unfolding forbidTests badPattern
 passed-placed t g [] h = tt
 passed-placed t g (f ∷ fs) h = (inside-of g (f .cell) (h .0), leb-false (t .count) (f .pattern) (h .1 .0), passed-placed t g fs (h .1 .1))

@@ -9,7 +9,7 @@ use lib.ListN.{length, getD}
 use Rattle.words.specs.Words.{howMany}
 use Rattle.grid.specs.Grid.{cells}
 use Rattle.consistency.specs.Domains.{possible, Sub}
-use Rattle.consistency.specs.Worklist.{State}
+use Rattle.consistency.specs.Worklist.{Removal, State}
 use Rattle.consistency.specs.Start.{others}
 use Rattle.consistency.specs.Parts.{lessened}
 use Rattle.propagation.specs.Beside.{Beside}
@@ -26,7 +26,7 @@ use Rattle.run.proofs.OpenLaws.{openCells, open-most, open-some, open-f
 
 -- ---- a choice
 
-module _ (i : Given) (fs : List Forbid) (L : Lawful i fs) (words : List ℕ) (used : ℕ) (s : State Beside) (S : Stands i s) (more : ℕ) (s′ : State Beside) (c : Chosen i words used s more s′) where
+module _ (i : Given) (fs : List Forbid) (L : Lawful i fs) (words : List ℕ) (used : ℕ) (s : State Beside) {us : List Removal} (S : Stands i us s) (more : ℕ) (s′ : State Beside) (c : Chosen i words used s more s′) where
   inside : c .cell < cells (i .grid)
   inside = omega (arith, c .inside, S .settled .safe .fit .sized)
 
@@ -70,7 +70,7 @@ pub record Counted (i : Given) (words : List ℕ) (k used : ℕ) (s : State Besi
   pub rest : s .empty ≡ false → k + openCells (cells (i .grid)) (s .domains) ≤ cells (i .grid)
 
 module _ (i : Given) (fs : List Forbid) (L : Lawful i fs) (words : List ℕ) where
-  counted-chose : (k used more : ℕ) (s s′ : State Beside) → Stands i s → Chosen i words used s more s′ → Counted i words k used s → Counted i words (suc k) more s′
+  counted-chose : (k used more : ℕ) (s s′ : State Beside) {us : List Removal} → Stands i us s → Chosen i words used s more s′ → Counted i words k used s → Counted i words (suc k) more s′
   counted-chose k used more s s′ S c C =
       record {
         each = omega (arith, c .one, C .each);

@@ -9,7 +9,7 @@ use Rattle.refusals.specs.Refusals.{firstOf}
 use Rattle.adjacency.specs.Tables.{Table, table}
 use Rattle.grid.specs.Grid.{Grid, grid}
 use Rattle.run.specs.declared.Forbid.{Forbid}
-use Rattle.run.specs.Called.{Memory, memory, testsOf, runTests}
+use Rattle.run.specs.Called.{Memory, memory, testsOf, runTests, recordsIn, forbidsOf}
 use Rattle.consistency.proofs.Cases.{checker}
 use Rattle.run.proofs.Cases.{forbid, keepOnly}
 
@@ -67,3 +67,14 @@ refusal-lengths = (refl, refl, refl, refl, refl, refl, refl)
 refusal-forbids : map (λ n. refusal checker (1 ∷ 1 ∷ []) (grid 2 1 0) 2 (replicate n (forbid 0 0)) two) (4096 ∷ 4097 ∷ []) ≡ 0 ∷ 5 ∷ []
 unfolding refusal
 refusal-forbids = refl
+
+-- forbids that are lent as so many zeros
+refusalOf : ℕ → ℕ
+unfolding firstOf testsOf recordsIn forbidsOf
+refusalOf n =
+    firstOf (testsOf (recordsIn (replicate n 0)) (record { table = checker; weights = 1 ∷ 1 ∷ []; grid = grid 2 1 0; noise = replicate 2 0 }) (forbidsOf (replicate n 0)) two)
+
+-- three numbers for each, and no number over; 4,096 of them and no more
+refusal-numbers : map refusalOf (3 ∷ 4 ∷ 5 ∷ 6 ∷ 12288 ∷ 12291 ∷ []) ≡ 0 ∷ 5 ∷ 5 ∷ 0 ∷ 0 ∷ 5 ∷ []
+unfolding refusalOf
+refusal-numbers = refl

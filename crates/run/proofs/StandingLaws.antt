@@ -28,8 +28,8 @@ use Rattle.run.specs.Stages.{contradicted, standing, stateIn, stageOf, S
 use Rattle.consistency.proofs.Settled.{Settled}
 use Rattle.propagation.proofs.LentLaws.{safe-beside}
 use Rattle.run.proofs.StateLaws.{asked-inside, reducedBy-settled, forbade-settled}
-use Rattle.run.proofs.TurnLaws.{Says, turn-over}
 use Rattle.run.proofs.CourseLaws.{run-final}
+use Rattle.run.proofs.EndLaws.{end-most}
 use Rattle.run.proofs.TurnsLaws.{pile-idle, laid-run}
 use Rattle.run.proofs.CalledLaws.{Granted, called-granted}
 
@@ -148,16 +148,8 @@ module _ {i : Given} {m : Memory} (S : Standing i m) where
     pub stop-most : stop .end ≤ 3
     unfolding endedAs
     stop-most =
-        let F = run-final i (S .laid .forbids) (S .laid .lawful) words in
         subst (λ (n : ℕ). n ≤ 3) (sym (ap (λ (x : Ended). x .end) (e ∙ laid-run words (S .laid))))
-        (most (runOf i (S .laid .forbids) words .used) (F .state) (runOf i (S .laid .forbids) words .end) (turn-over i words (runOf i (S .laid .forbids) words .used) (F .state) (F .over) .says))
-      where
-        most : (used : ℕ) (s : State Beside) (n : ℕ) → Says i words used s n → n ≤ 3
-        most used s zero h = omega arith
-        most used s (suc zero) h = omega arith
-        most used s (suc (suc zero)) h = omega arith
-        most used s (suc (suc (suc zero))) h = omega arith
-        most used s (suc (suc (suc (suc n)))) h = absurd h
+        (end-most i (S .laid .forbids) (S .laid .lawful) words (run-final i (S .laid .forbids) (S .laid .lawful) words))
 
     -- the answer tells their end, and the work memory is cleared
     pub turns-concluded : {told : Asked End} {m′ : Memory} {r : calls.Room} → told ≡ answer (record { end = stop .end; used = stop .used })

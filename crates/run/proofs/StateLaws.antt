@@ -17,7 +17,7 @@ use Rattle.consistency.specs.Safe.{Inside}
 use Rattle.propagation.specs.Beside.{Beside, kept, unmarked, lessened as valued}
 use Rattle.run.specs.declared.Forbid.{Forbid}
 use Rattle.run.specs.Run.{Given, begun, reducedBy, asked, laid, laidAll, firstBeside, turn, Turn}
-use Rattle.run.specs.Course.{Placed, Lawful, fullLess, wanted, Reached, forbade, chose}
+use Rattle.run.specs.Course.{Placed, Lawful, fullLess, wanted, turnedOff, Reached, forbade, chose, removals}
 use Rattle.consistency.proofs.DomainLaws.{fit-filled}
 use Rattle.consistency.proofs.RemovalLaws.{inside-append, others-inside}
 use Rattle.consistency.proofs.LessenedLaws.{fit-lessened, lessened-append, forbids-lessened}
@@ -88,8 +88,7 @@ module _ (i : Given) (A : Accepted (i .table)) where
 -- ---- every state
 
 -- a state is what propagation leaves of full domains less all that was asked to go
-pub record Stands (i : Given) (s : State Beside) : Type 0 where
-  pub asks : List Removal
+pub record Stands (i : Given) (asks : List Removal) (s : State Beside) : Type 0 where
   pub inside : Inside (i .table .count) (cells (i .grid)) asks
   pub settled : Settled (i .table) (i .grid) (fullLess i asks) s
 
@@ -99,29 +98,32 @@ module _ (i : Given) (fs : List Forbid) (L : Lawful i fs) where
   forbade-settled = laidAll-settled i (L .accepted) fs _ (begun i) (L .placed) (fit-filled _ _) (begun-settled i (L .accepted))
 
   -- more removals, propagated
-  stands-more : (us : List Removal) (s : State Beside) → Inside (i .table .count) (cells (i .grid)) us → s .empty ≡ false → Stands i s → Stands i (reducedBy i us s)
-  stands-more us s h e S =
+  stands-more : (us vs : List Removal) (s : State Beside) → Inside (i .table .count) (cells (i .grid)) us → s .empty ≡ false → Stands i vs s
+      → Stands i (vs ++ us) (reducedBy i us s)
+  stands-more us vs s h e S =
       record {
-        asks = S .asks ++ us;
-        inside = inside-append _ _ (S .asks) us (S .inside) h;
+        inside = inside-append _ _ vs us (S .inside) h;
         settled =
-            rw (lessened-append (S .asks) us)
+            rw (lessened-append vs us)
             (settled-after (i .table) (i .grid) (L .accepted) us _ s (reducedBy i us s) (S .settled) e (reducedBy-settled i (L .accepted) us s h (S .settled .ready e)));
       }
 
-  stands-forbade : Stands i (laidAll i fs (begun i))
-  stands-forbade = record { asks = wanted (i .table .count) fs; inside = wanted-inside _ _ fs (L .placed); settled = forbade-settled }
+  stands-forbade : Stands i (wanted (i .table .count) fs) (laidAll i fs (begun i))
+  stands-forbade = record { inside = wanted-inside _ _ fs (L .placed); settled = forbade-settled }
 
-  stands-chose : (words : List ℕ) (used more : ℕ) (s s′ : State Beside) → turn i words used s ≡ Turn.on more s′ → Stands i s → Stands i s′
-  stands-chose words used more s s′ e S =
+  stands-chose : (words : List ℕ) (used more : ℕ) (vs : List Removal) (s s′ : State Beside) → turn i words used s ≡ Turn.on more s′ → Stands i vs s
+      → Stands i (vs ++ turnedOff i words used s) s′
+  stands-chose words used more vs s s′ e S =
       let c = turn-on i words used s e in
-      rw (c .made)
-      (stands-more (others (i .table .count) (c .cell) (c .pattern)) s (others-inside _ _ _ _ (omega (arith, c .inside, S .settled .safe .fit .sized))) (c .whole) S)
+      rw (c .made, c .asks)
+      (stands-more (others (i .table .count) (c .cell) (c .pattern)) vs s (others-inside _ _ _ _ (omega (arith, c .inside, S .settled .safe .fit .sized))) (c .whole) S)
 
-  -- every state that a run reaches
-  pub reached-stands : {words : List ℕ} {k used : ℕ} {s : State Beside} → Reached i fs words k used s → Stands i s
+  -- every state that a run reaches is what propagation leaves of full domains less all that was asked to go until then
+  pub reached-stands : {words : List ℕ} {k used : ℕ} {s : State Beside} (r : Reached i fs words k used s) → Stands i (removals i fs words r) s
+  unfolding removals
   reached-stands forbade = stands-forbade
-  reached-stands {words} (chose {used = used} {more = more} {s = s} {s′ = s′} r e) = stands-chose words used more s s′ e (reached-stands r)
+  reached-stands {words} (chose {used = used} {more = more} {s = s} {s′ = s′} r e) =
+      stands-chose words used more (removals i fs words r) s s′ e (reached-stands r)
 
   module _ {words : List ℕ} {k used : ℕ} {s : State Beside} (r : Reached i fs words k used s) (e : s .empty ≡ false) where
     -- while no cell is empty it is ready for more

@@ -3,7 +3,7 @@
 use mathlib.Core.Bool.{Bool, true, false, cond}
 use mathlib.Core.List.{List}
 use mathlib.Core.Option.{Option, none, some, Option·some-injective, Option·none-ne-some}
-use mathlib.Core.Path.{_≡_, refl, sym, ap, subst}
+use mathlib.Core.Path.{_≡_, refl, sym, ap, _∙_, subst}
 use Prim.Native.Nat.{ℕ, zero, suc, _≤_, _<_}
 use lib.Ieee.{Float}
 use lib.ListN.{length, getD, replicate}
@@ -18,6 +18,7 @@ use Rattle.choice.specs.declared.inner.Observed.the-variants.{Cell, Nothing}
 use Rattle.choice.specs.Observer.{Notes, countsAt, observe, Sight, sightOf}
 use Rattle.choice.specs.Choice.{Draw, draw, taken}
 use Rattle.run.specs.Run.{Given, reducedBy, notesOf, sighted, Ended, ended, decided, still, chosen, Turn, drawn, seen, turn, collapse}
+use Rattle.run.specs.Course.{otherThan, drawnOff, seenOff, turnedOff}
 use Rattle.choice.proofs.DrawLaws.{draw-none, draw-left, draw-one, draw-below}
 use Rattle.choice.proofs.ChoiceLaws.{taken-some, taken-in}
 use Rattle.choice.proofs.ObserverLaws.{valid-counts, valid-weight, nothing-counts, observed-seen}
@@ -75,6 +76,7 @@ module _ (i : Given) (words : List ℕ) (used : ℕ) (s : State Beside) where
     pub present : possible (s .domains) cell pattern ≡ 1
     pub left : used < length words
     pub one : more ≡ suc used
+    pub asks : turnedOff i words used s ≡ others (i .table .count) cell pattern
     pub made : s′ ≡ reducedBy i (others (i .table .count) cell pattern) s
 
   -- a turn does one of these
@@ -94,7 +96,7 @@ module _ (i : Given) (words : List ℕ) (used : ℕ) (s : State Beside) where
     word = getD (s .domains) (x .cell) 0
 
     chosen-by : (d : Draw) → draw words used (weightSum (i .weights) word) ≡ some d → Chosen (d .used) (chosen i (x .cell) (taken (i .weights) word (d .number)) s)
-    unfolding sighted notesOf chosen
+    unfolding sighted notesOf chosen turnedOff seenOff drawnOff otherThan
     chosen-by d z =
         let (inside, counting) = sight-counts (notesOf i s) x q in
         let sum = weightSum (i .weights) word in
@@ -109,6 +111,7 @@ module _ (i : Given) (words : List ℕ) (used : ℕ) (s : State Beside) where
           present = taken-in (i .weights) word (d .number) p t .0;
           left = draw-left words used sum d z;
           one = draw-one words used sum d z;
+          asks = ap (seenOff i words used s) q ∙ ap (drawnOff i s (x .cell)) z ∙ ap (otherThan (i .table .count) (x .cell)) t;
           made = ap (λ (o : Option ℕ). chosen i (x .cell) o s) t;
         }
 

@@ -9,7 +9,7 @@
 --     alloc-all, filled, free-filled     the locals made at once, with local i at 2 i; what they hold as one list of values, which may end early; and freed at once, whatever they hold
 --     var, then            a local is read; a body after its first statement
 --     chain, on, off       ⋆ of a list of formulas in front of another; it is put there, and taken off
--- Assumes `Given`.
+-- Assumes nothing: `Given` is the kit's record of what every function is given.
 use mathlib.Core.List.{List, [], _∷_}
 use mathlib.Core.Option.{Option, none, some as holds}
 use mathlib.Core.Path.{_≡_, refl, _∙_, subst}

@@ -180,7 +180,7 @@ pub(crate) fn judge_all(forbids: &[u32], count: usize, width: usize, height: usi
     0
 }
 
-// The number of the first refusal of the forbids, 0 for none. It holds the forbids, and is proved by hand.
+// The number of the first refusal of the forbids, 0 for none.
 pub(crate) fn check_all(forbids: &[Forbid], count: usize, width: usize, height: usize) -> u32
     ensures { λ r. ⌜ ((offsets ids : List ℕ) (mode : ℕ)
         → r ≡ firstOf (forbidTests (table count offsets ids) (grid width height mode) (now (forbids .entry)))) ⌝ }

@@ -1,14 +1,15 @@
 // The stages of a call, over plain numbers: refused or begun, a forbid laid, concluded. Whoever holds the forbids goes through them in order.
 // Follows docs/RULES.md, "Run" and "Refusals". A code tells where the call stands: 0 while the run goes on, 12 after a contradiction, otherwise a refusal's number.
 // Each is lent every slice of the run, read or not, so that whoever holds the forbids lends the same ones each time.
+ghost use mathlib.Core.List.{List};
 ghost use mathlib.Core.Path.{_≡_};
-ghost use Prim.Native.Nat.{_≤_, _<_};
+ghost use Prim.Native.Nat.{ℕ, _≤_, _<_};
 ghost use lib.ListN.{length};
-ghost use Rattle.refusals.specs.Refusals.{answer};
+ghost use Rattle.refusals.specs.Refusals.{firstOf, answer};
 ghost use Rattle.adjacency.specs.Tables.{table};
 ghost use Rattle.grid.specs.Grid.{grid};
 ghost use Rattle.run.specs.Run.{given};
-ghost use Rattle.run.specs.Called.{memory, outcome, answerTold};
+ghost use Rattle.run.specs.Called.{forbidTests, forbidsOf, recordsIn, memory, outcome, answerTold};
 ghost use Rattle.run.specs.Steps.{asking};
 ghost use Rattle.run.specs.Stages.{stateIn, stageOf, standing, Standing, beginning, layAt, concluding, Concluded};
 use crate::Answer;
@@ -228,4 +229,21 @@ fn turns(
     );
     crate::start::finish(stop.end == 3, domains, counts, pending, floats, marks);
     answer(stop.end, stop.used)
+}
+
+// ---- forbids that are lent as numbers
+
+// The number of the first refusal of forbids that are lent as numbers, 0 for none.
+pub fn judge_all(forbids: &[u32], count: usize, width: usize, height: usize) -> u32
+    ensures { λ r. ⌜ ((offsets ids : List ℕ) (mode : ℕ)
+        → r ≡ firstOf (forbidTests (table count offsets ids) (grid width height mode) (forbidsOf (now (forbids .entry))))) ⌝ }
+{
+    crate::check::judge_all(forbids, count, width, height)
+}
+
+// How many forbids are lent as numbers, three for each; one too many where they are not three for each.
+pub fn records_in(forbids: &[u32]) -> usize
+    ensures { λ r. ⌜ r ≡ recordsIn (now (forbids .entry)) ⌝ }
+{
+    crate::check::records_in(forbids)
 }

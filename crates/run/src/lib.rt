@@ -1,4 +1,5 @@
-// The run: observe, choose, forbid and collapse.
+// The run: forbids are laid, then a cell is observed and a pattern chosen there until the run ends. A choice is asked apart, too.
+// Follows docs/RULES.md, "Run" and "Refusals". Main property: every call is what `called` says of its inputs, so an ocean that is Decided violates no list.
 ghost use mathlib.Core.Path.{_≡_};
 ghost use Rattle.adjacency.specs.Tables.{table};
 ghost use Rattle.grid.specs.Grid.{grid};
@@ -17,12 +18,14 @@ mod start;
 
 pub use numbers::run_numbers;
 
+// A pattern that is forbidden at a cell, where `keep` is 0, or the only one that is kept there.
 pub struct Forbid {
     pub cell: u32,
     pub pattern: u32,
     pub keep: u32,
 }
 
+// How a run ended, with the number of words that it used; or why there was none.
 pub enum Answer {
     Decided(usize),
     Undecided(usize),
@@ -54,7 +57,7 @@ pub fn choice_of(count: usize, weights: &[u32], domain: u64, word: u32) -> Choic
     }
 }
 
-// A run: refused, or from the forbids to its end. It holds the forbids, and is proved by hand.
+// A run: refused, or from the forbids to its end. The checker does not cover a slice of structs, so tools/walk.py writes its proof.
 pub fn run(
     forbids: &[Forbid],
     count: usize,

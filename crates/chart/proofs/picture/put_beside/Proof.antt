@@ -1,0 +1,53 @@
+-- `chart::picture::put_beside` meets its contract: its parts in a row.
+-- Assumes nothing.
+use borrow.Author.Needs.{needs}
+use Rattle.chart.specs.Picture.{besideText}
+use Rattle.text.proofs.PageLaws.{puts}
+use Rattle.chart.proofs.picture.put_beside.Statement.{statement}
+use Rattle.chart.proofs.picture.put_beside.Tie as tie
+
+slice-aggregate-put-text : tie.Need-slice-aggregate-put-text
+slice-aggregate-put-text c = search needs
+
+put-text-requires : tie.Need-put-text-requires
+put-text-requires c κs = search needs
+
+put-decimal-requires : tie.Need-put-decimal-requires
+put-decimal-requires c κs = search needs
+
+slice-aggregate-put-text-2 : tie.Need-slice-aggregate-put-text-2
+slice-aggregate-put-text-2 c = search needs
+
+put-text-requires-2 : tie.Need-put-text-requires-2
+put-text-requires-2 c κs = search needs
+
+put-decimal-requires-2 : tie.Need-put-decimal-requires-2
+put-decimal-requires-2 c κs = search needs
+
+slice-aggregate-put-text-3 : tie.Need-slice-aggregate-put-text-3
+slice-aggregate-put-text-3 c = search needs
+
+put-text-requires-3 : tie.Need-put-text-requires-3
+put-text-requires-3 c κs = search needs
+
+same-length : tie.Need-same-length
+same-length c = search needs
+
+returns : tie.Need-returns
+unfolding besideText
+returns c = puts _ _ _ _ _ (puts _ _ _ _ _ (puts _ _ _ _ _ (puts _ _ _ _ _ (c .before .before .before .before .before .before .before .before .before .before .before .before .before .before .before .before .before .before .before .before .put-text .ensures) (c .before .before .before .before .before .before .before .before .before .before .before .before .before .before .before .before .put-decimal .ensures)) (c .before .before .before .before .before .before .before .before .before .before .before .put-text2 .ensures)) (c .before .before .before .before .before .before .before .put-decimal2 .ensures)) (c .before .before .put-text3 .ensures)
+
+pub put-beside-spec : {M : Type 1} → statement M
+put-beside-spec =
+    tie.close
+    (tie.spec
+    slice-aggregate-put-text
+    put-text-requires
+    put-decimal-requires
+    slice-aggregate-put-text-2
+    put-text-requires-2
+    put-decimal-requires-2
+    slice-aggregate-put-text-3
+    put-text-requires-3
+    same-length
+    returns)

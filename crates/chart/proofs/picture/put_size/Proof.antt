@@ -1,0 +1,56 @@
+-- `chart::picture::put_size` meets its contract: its parts in a row.
+-- Assumes nothing.
+use borrow.Author.Needs.{needs}
+use Rattle.chart.proofs.PictureLaws.{size-put}
+use Rattle.chart.proofs.picture.put_size.Statement.{statement}
+use Rattle.chart.proofs.picture.put_size.Tie as tie
+
+breadth-requires : tie.Need-breadth-requires
+breadth-requires c κs = search needs
+
+beneath-requires : tie.Need-beneath-requires
+beneath-requires c κs = search needs
+
+slice-aggregate-put-text : tie.Need-slice-aggregate-put-text
+slice-aggregate-put-text c = search needs
+
+put-text-requires : tie.Need-put-text-requires
+put-text-requires c κs = search needs
+
+put-decimal-requires : tie.Need-put-decimal-requires
+put-decimal-requires c κs = search needs
+
+put-byte-requires : tie.Need-put-byte-requires
+put-byte-requires c κs = search needs
+
+put-decimal-requires-2 : tie.Need-put-decimal-requires-2
+put-decimal-requires-2 c κs = search needs
+
+slice-aggregate-put-text-2 : tie.Need-slice-aggregate-put-text-2
+slice-aggregate-put-text-2 c = search needs
+
+put-text-requires-2 : tie.Need-put-text-requires-2
+put-text-requires-2 c κs = search needs
+
+same-length : tie.Need-same-length
+same-length c = search needs
+
+returns : tie.Need-returns
+returns c = size-put _ _ _ _ _ _ _ _ _ _ (c .before .before .before .before .before .before .before .before .before .before .before .before .before .before .before .before .before .before .before .before .before .before .before .breadth .ensures) (c .before .before .before .before .before .before .before .before .before .before .before .before .before .before .before .before .before .before .before .before .before .before .beneath .ensures)
+    (c .before .before .before .before .before .before .before .before .before .before .before .before .before .before .before .before .before .before .before .put-text .ensures) (c .before .before .before .before .before .before .before .before .before .before .before .before .before .before .before .put-decimal .ensures) (c .before .before .before .before .before .before .before .before .before .before .before .put-byte .ensures) (c .before .before .before .before .before .before .before .put-decimal2 .ensures) (c .before .before .put-text2 .ensures)
+
+pub put-size-spec : {M : Type 1} → statement M
+put-size-spec =
+    tie.close
+    (tie.spec
+    breadth-requires
+    beneath-requires
+    slice-aggregate-put-text
+    put-text-requires
+    put-decimal-requires
+    put-byte-requires
+    put-decimal-requires-2
+    slice-aggregate-put-text-2
+    put-text-requires-2
+    same-length
+    returns)

@@ -1,0 +1,35 @@
+-- `chart::table::put_some` meets its contract: nothing where the pattern stands in no cell.
+-- Assumes nothing.
+use borrow.Author.Needs.{needs}
+use Rattle.chart.proofs.ChartLaws.{some-none, some-put}
+use Rattle.chart.proofs.table.put_some.Statement.{statement}
+use Rattle.chart.proofs.table.put_some.Tie as tie
+
+lone-pattern-requires : tie.Need-lone-pattern-requires
+lone-pattern-requires c κs = search needs
+
+count-alike-requires : tie.Need-count-alike-requires
+count-alike-requires c κs = search needs
+
+returns : tie.Need-returns
+returns c = some-none _ _ _ _ _ _ (c .before .before .lone-pattern .ensures) (c .before .count-alike .ensures) (c .if1 .taken)
+
+put-entry-requires : tie.Need-put-entry-requires
+put-entry-requires c κs = search needs
+
+same-length : tie.Need-same-length
+same-length c = search needs
+
+returns-2 : tie.Need-returns-2
+returns-2 c = some-put _ _ _ _ _ _ (c .before .before .before .before .before .before .lone-pattern .ensures) (c .before .before .before .before .before .count-alike .ensures) _ (c .before .before .before .before .if1 .left) (c .before .before .put-entry .ensures)
+
+pub put-some-spec : {M : Type 1} → statement M
+put-some-spec =
+    tie.close
+    (tie.spec
+    lone-pattern-requires
+    count-alike-requires
+    returns
+    put-entry-requires
+    same-length
+    returns-2)

@@ -1,0 +1,4 @@
+pub mod Signs
+pub mod Tallies
+pub mod Chart
+pub mod Picture

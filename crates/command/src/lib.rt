@@ -1,0 +1,7 @@
+// What a person types and is told: the arguments of `ocean`, numbers in decimal, and a sentence for each refusal.
+// Follows docs/RULES.md, "Refusals" and "Programs".
+pub mod arguments;
+mod sentences;
+
+pub use sentences::put_fault;
+pub use sentences::put_refusal;

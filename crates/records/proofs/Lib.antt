@@ -1,0 +1,3 @@
+pub mod RecordLaws
+pub mod LayingLaws
+pub mod NumberLaws
