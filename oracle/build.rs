@@ -5,10 +5,8 @@ use std::{env, fs, path::Path};
 const PUBLISHED: &str = "../docs/src/wfc.rs";
 
 // The draw: Murghidossu takes the lent word modulo the weight sum, and so must the Rust here.
-const OLD: &str =
-    "        let mut remaining = rng.gen_range(0..self.stats.sum_compatible_pattern_weight);\n";
-const NEW: &str =
-    "        let mut remaining = rng.next_u32() % self.stats.sum_compatible_pattern_weight;\n";
+const OLD: &str = "        let mut remaining = rng.gen_range(0..self.stats.sum_compatible_pattern_weight);\n";
+const NEW: &str = "        let mut remaining = rng.next_u32() % self.stats.sum_compatible_pattern_weight;\n";
 
 fn main() {
     let published = fs::read_to_string(PUBLISHED).expect("docs/src/wfc.rs");

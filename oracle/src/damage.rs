@@ -75,7 +75,13 @@ fn damage_once(case: &mut Case, numbers: &mut Numbers) {
         7 => resize(&mut case.noise, numbers),
         8 => {
             let room = &mut case.room;
-            let lengths = [&mut room.domains, &mut room.counts, &mut room.pending, &mut room.floats, &mut room.marks];
+            let lengths = [
+                &mut room.domains,
+                &mut room.counts,
+                &mut room.pending,
+                &mut room.floats,
+                &mut room.marks,
+            ];
             resize_room(lengths[numbers.below(5)], numbers);
         }
         9 => change(&mut case.weights, numbers),
@@ -86,7 +92,9 @@ fn damage_once(case: &mut Case, numbers: &mut Numbers) {
         _ => {
             // one forbid too many, or just not
             let many = numbers.one_of(&[4095, 4096, 4097]);
-            case.forbids = (0..3 * many).map(|k| if k % 3 == 1 { 0 } else { (k % 3) as u32 / 2 }).collect();
+            case.forbids = (0..3 * many)
+                .map(|k| if k % 3 == 1 { 0 } else { (k % 3) as u32 / 2 })
+                .collect();
         }
     }
 }

@@ -70,7 +70,13 @@ fn pairs(p: usize, numbers: &mut Numbers) -> Pairs {
                 3 => away == step,
                 // a share of the pairs, of which the last kind takes both or neither
                 4 => numbers.percent(share),
-                _ => if a <= b { numbers.percent(share) } else { rows[b] >> a & 1 == 1 },
+                _ => {
+                    if a <= b {
+                        numbers.percent(share)
+                    } else {
+                        rows[b] >> a & 1 == 1
+                    }
+                }
             };
             if stands {
                 rows[a] |= 1 << b;
@@ -90,8 +96,20 @@ fn weights(p: usize, numbers: &mut Numbers) -> Vec<u32> {
             0 => 1,
             1 | 2 => numbers.from_to(1, 9.min(top)) as u32,
             3 => numbers.from_to(0, top) as u32,
-            4 => if numbers.percent(50) { 0 } else { numbers.from_to(1, 3) as u32 },
-            5 => if numbers.percent(85) { 0 } else { numbers.from_to(1, 5) as u32 },
+            4 => {
+                if numbers.percent(50) {
+                    0
+                } else {
+                    numbers.from_to(1, 3) as u32
+                }
+            }
+            5 => {
+                if numbers.percent(85) {
+                    0
+                } else {
+                    numbers.from_to(1, 5) as u32
+                }
+            }
             6 => (q == one) as u32,
             // one heavy, so that losing it raises the entropy
             _ => 1,
@@ -117,7 +135,11 @@ fn sides(numbers: &mut Numbers) -> (usize, usize) {
         _ => {
             let width = numbers.from_to(1, 64);
             let height = numbers.from_to(1, 64.min(1024 / width));
-            if numbers.percent(50) { (width, height) } else { (height, width) }
+            if numbers.percent(50) {
+                (width, height)
+            } else {
+                (height, width)
+            }
         }
     }
 }
@@ -150,7 +172,11 @@ fn forbids(cells: usize, p: usize, numbers: &mut Numbers) -> Vec<u32> {
         records.push(numbers.below(cells) as u32);
         records.push(numbers.below(p) as u32);
         // any other number than 0 keeps only the pattern
-        records.push(if numbers.percent(keeping) { numbers.one_of(&[1, 1, 2, u32::MAX]) } else { 0 });
+        records.push(if numbers.percent(keeping) {
+            numbers.one_of(&[1, 1, 2, u32::MAX])
+        } else {
+            0
+        });
     }
     records
 }
@@ -198,7 +224,11 @@ pub fn random(seed: u64, number: u64) -> Case {
     };
     let cells = width * height;
     let east = pairs(p, &mut numbers);
-    let south = if numbers.percent(40) { east.clone() } else { pairs(p, &mut numbers) };
+    let south = if numbers.percent(40) {
+        east.clone()
+    } else {
+        pairs(p, &mut numbers)
+    };
     let (offsets, ids) = table(&east, &south);
     Case {
         name: format!("random {} {}", seed, number),
@@ -242,7 +272,9 @@ pub struct Small {
 /// The words that let a cell of two or more weighted patterns take the lowest or the highest of them.
 fn drawn(bits: usize, many: usize, weights: &[u32]) -> Vec<u32> {
     let sum: u32 = weights.iter().sum();
-    (0..many).map(|k| if bits >> k & 1 == 1 { sum.max(1) - 1 } else { 0 }).collect()
+    (0..many)
+        .map(|k| if bits >> k & 1 == 1 { sum.max(1) - 1 } else { 0 })
+        .collect()
 }
 
 /// Calls `each` with every case of this share.
@@ -261,18 +293,26 @@ pub fn each_small(small: &Small, east: &[u64], south: &[u64], each: &mut dyn FnM
         room: Room::of(small.count, cells),
         ..Case::default()
     };
-    case.name = format!("table {:?} {:?} on {} by {}, mode {}", east, south, small.width, small.height, small.mode);
+    case.name = format!(
+        "table {:?} {:?} on {} by {}, mode {}",
+        east, south, small.width, small.height, small.mode
+    );
     let records = if small.forbids { 1 + 2 * cells * small.count } else { 1 };
     for record in 0..records {
         case.forbids.clear();
         if record > 0 {
             let k = record - 1;
             let (cell, pattern, keep) = (k / 2 / small.count, k / 2 % small.count, k % 2);
-            case.forbids.extend_from_slice(&[cell as u32, pattern as u32, keep as u32]);
+            case.forbids
+                .extend_from_slice(&[cell as u32, pattern as u32, keep as u32]);
         }
         for bits in 0..small.sequences.min(1 << cells) {
             // spread over the sequences where there are more
-            let bits = if small.sequences < 1 << cells { bits * 37 % (1 << cells) } else { bits };
+            let bits = if small.sequences < 1 << cells {
+                bits * 37 % (1 << cells)
+            } else {
+                bits
+            };
             case.words = drawn(bits, cells, &case.weights);
             each(&case);
         }

@@ -6,7 +6,9 @@ const OPPOSITE: [usize; 4] = [2, 3, 0, 1];
 
 fn without_cells(case: &Case, stays: impl Fn(usize, usize) -> bool, width: usize, height: usize) -> Case {
     let mut next = case.clone();
-    let kept: Vec<usize> = (0..case.cells()).filter(|c| stays(c % case.width, c / case.width)).collect();
+    let kept: Vec<usize> = (0..case.cells())
+        .filter(|c| stays(c % case.width, c / case.width))
+        .collect();
     next.width = width;
     next.height = height;
     next.noise = kept.iter().map(|&c| case.noise[c]).collect();
@@ -21,7 +23,12 @@ fn without_cells(case: &Case, stays: impl Fn(usize, usize) -> bool, width: usize
 }
 
 /// A table anew from the pairs that `stays` lets stand.
-fn with_lists(case: &Case, count: usize, name: impl Fn(usize) -> usize, stays: impl Fn(usize, usize, usize) -> bool) -> (Vec<u32>, Vec<u8>) {
+fn with_lists(
+    case: &Case,
+    count: usize,
+    name: impl Fn(usize) -> usize,
+    stays: impl Fn(usize, usize, usize) -> bool,
+) -> (Vec<u32>, Vec<u8>) {
     let mut offsets = vec![0];
     let mut ids = Vec::new();
     for p in 0..count {
@@ -48,7 +55,8 @@ fn without_pattern(case: &Case, gone: usize) -> Case {
     for record in case.forbids.chunks(3) {
         let p = record[1] as usize;
         if p != gone {
-            next.forbids.extend_from_slice(&[record[0], (p - (p > gone) as usize) as u32, record[2]]);
+            next.forbids
+                .extend_from_slice(&[record[0], (p - (p > gone) as usize) as u32, record[2]]);
         }
     }
     next.room = Room::of(next.count, next.cells());
@@ -81,7 +89,11 @@ fn smaller(case: &Case) -> Vec<Case> {
     if records > 3 {
         for half in 0..2 {
             let mut next = case.clone();
-            next.forbids.drain(if half == 0 { 0..records / 2 * 3 } else { records / 2 * 3..records * 3 });
+            next.forbids.drain(if half == 0 {
+                0..records / 2 * 3
+            } else {
+                records / 2 * 3..records * 3
+            });
             out.push(next);
         }
     }
@@ -118,9 +130,16 @@ fn smaller(case: &Case) -> Vec<Case> {
     let mut ranked: Vec<u32> = case.noise.clone();
     ranked.sort_unstable();
     ranked.dedup();
-    let ranks: Vec<u32> = case.noise.iter().map(|n| ranked.iter().position(|r| r == n).unwrap() as u32).collect();
+    let ranks: Vec<u32> = case
+        .noise
+        .iter()
+        .map(|n| ranked.iter().position(|r| r == n).unwrap() as u32)
+        .collect();
     if ranks != case.noise {
-        out.push(Case { noise: ranks, ..case.clone() });
+        out.push(Case {
+            noise: ranks,
+            ..case.clone()
+        });
     }
     for a in 0..p {
         for d in 0..2 {

@@ -76,7 +76,10 @@ const FENCE: usize = 8;
 
 impl<T: Copy> Lent<T> {
     fn new(length: usize, old: T) -> Self {
-        Self { all: vec![old; length + 2 * FENCE], old }
+        Self {
+            all: vec![old; length + 2 * FENCE],
+            old,
+        }
     }
     fn length(&self) -> usize {
         self.all.len() - 2 * FENCE
@@ -164,7 +167,11 @@ pub fn told(case: &Case) -> Result<Told, &'static str> {
     let mut memory = Memory::new(&case.room);
     let code = run(case, &mut memory);
     // the refusal's number in the lowest byte, the end above it, the words used in the upper half
-    let (refusal, end, used) = ((code & 255) as u32, (code >> 8 & 0xff_ffff) as u32, (code >> 32) as usize);
+    let (refusal, end, used) = (
+        (code & 255) as u32,
+        (code >> 8 & 0xff_ffff) as u32,
+        (code >> 32) as usize,
+    );
     if !memory.fenced() {
         return Err("memory beside what was lent is changed");
     }
@@ -172,14 +179,23 @@ pub fn told(case: &Case) -> Result<Told, &'static str> {
         if !memory.unchanged() {
             return Err("refused, and lent memory is changed");
         }
-        return if end == 0 && used == 0 { Ok(Told::Refused(refusal)) } else { Err("refused, with an end") };
+        return if end == 0 && used == 0 {
+            Ok(Told::Refused(refusal))
+        } else {
+            Err("refused, with an end")
+        };
     }
     if !memory.worked_off() {
         return Err("accepted, and work memory is not zero");
     }
     let domains = memory.domains.lent().to_vec();
     let choices = trace(case).ok_or("memory beside what was lent for the choices is changed")?;
-    Ok(Told::Ended(Ended { end, used, domains, choices }))
+    Ok(Told::Ended(Ended {
+        end,
+        used,
+        domains,
+        choices,
+    }))
 }
 
 fn run(case: &Case, m: &mut Memory) -> u64 {
@@ -259,5 +275,9 @@ fn trace(case: &Case) -> Option<Vec<Choice>> {
         entropy: entropies.lent()[k].to_bits(),
         pattern: places.lent()[2 * k + 1] as usize,
     };
-    if m.fenced() && places.fenced() && entropies.fenced() { Some((0..made).map(choice).collect()) } else { None }
+    if m.fenced() && places.fenced() && entropies.fenced() {
+        Some((0..made).map(choice).collect())
+    } else {
+        None
+    }
 }

@@ -24,9 +24,7 @@ fn bad_list(case: &Case) -> bool {
         || offsets[4 * case.count] as usize != case.ids.len()
         || (0..4 * case.count).any(|k| {
             let list = case.list(k / 4, k % 4);
-            list.is_empty()
-                || list.windows(2).any(|w| w[0] >= w[1])
-                || list.iter().any(|&q| q as usize >= case.count)
+            list.is_empty() || list.windows(2).any(|w| w[0] >= w[1]) || list.iter().any(|&q| q as usize >= case.count)
         })
 }
 
@@ -104,7 +102,9 @@ impl<'a> Run<'a> {
                 [length(0), length(1), length(2), length(3)]
             })
             .collect();
-        let running = (0..p).filter(|&q| case.weights[q] > 0).fold(0.0, |sum, q| sum + w_log_w(case, q));
+        let running = (0..p)
+            .filter(|&q| case.weights[q] > 0)
+            .fold(0.0, |sum, q| sum + w_log_w(case, q));
         let mut run = Self {
             case,
             weighted,
@@ -131,7 +131,10 @@ impl<'a> Run<'a> {
     }
 
     fn weight_sum(&self, c: usize) -> u32 {
-        (0..self.case.count).filter(|q| self.domains[c] >> q & 1 == 1).map(|q| self.case.weights[q]).sum()
+        (0..self.case.count)
+            .filter(|q| self.domains[c] >> q & 1 == 1)
+            .map(|q| self.case.weights[q])
+            .sum()
     }
 
     fn neighbour(&self, c: usize, d: usize) -> Option<usize> {
@@ -141,10 +144,22 @@ impl<'a> Run<'a> {
         let wraps_y = self.case.mode & 2 == 2;
         // one place on, in a line of so many
         fn on(at: usize, many: usize, wraps: bool) -> Option<usize> {
-            if at + 1 < many { Some(at + 1) } else if wraps { Some(0) } else { None }
+            if at + 1 < many {
+                Some(at + 1)
+            } else if wraps {
+                Some(0)
+            } else {
+                None
+            }
         }
         fn back(at: usize, many: usize, wraps: bool) -> Option<usize> {
-            if at > 0 { Some(at - 1) } else if wraps { Some(many - 1) } else { None }
+            if at > 0 {
+                Some(at - 1)
+            } else if wraps {
+                Some(many - 1)
+            } else {
+                None
+            }
         }
         match d {
             0 => back(y, h, wraps_y).map(|y| y * w + x),
@@ -230,13 +245,12 @@ impl<'a> Run<'a> {
                 Some(note) => note,
                 None => continue,
             };
-            let counts = note.weighted == (self.domains[c] & self.weighted).count_ones()
-                && self.domains[c].count_ones() >= 2;
+            let counts =
+                note.weighted == (self.domains[c] & self.weighted).count_ones() && self.domains[c].count_ones() >= 2;
             let before = match best {
                 None => true,
                 Some((b, entropy)) => {
-                    note.entropy < entropy
-                        || note.entropy == entropy && self.case.noise[c] < self.case.noise[b]
+                    note.entropy < entropy || note.entropy == entropy && self.case.noise[c] < self.case.noise[b]
                 }
             };
             if counts && before {
@@ -271,7 +285,12 @@ fn run(case: &Case) -> Ended {
     let zero = vec![0; case.cells()];
     for record in case.forbids.chunks(3) {
         if !run.lay(record) {
-            return Ended { end: CONTRADICTION, used: 0, domains: zero, choices };
+            return Ended {
+                end: CONTRADICTION,
+                used: 0,
+                domains: zero,
+                choices,
+            };
         }
     }
     loop {
@@ -281,16 +300,35 @@ fn run(case: &Case) -> Ended {
             None => {
                 let decided = run.domains.iter().all(|word| word.count_ones() == 1);
                 let end = if decided { DECIDED } else { UNDECIDED };
-                return Ended { end, used, domains: run.domains, choices };
+                return Ended {
+                    end,
+                    used,
+                    domains: run.domains,
+                    choices,
+                };
             }
         };
         if used == case.words.len() {
-            return Ended { end: PAUSED, used, domains: run.domains, choices };
+            return Ended {
+                end: PAUSED,
+                used,
+                domains: run.domains,
+                choices,
+            };
         }
         let pattern = run.choose(cell, case.words[used]);
-        choices.push(Choice { cell, entropy: entropy.to_bits(), pattern });
+        choices.push(Choice {
+            cell,
+            entropy: entropy.to_bits(),
+            pattern,
+        });
         if !run.keep_only(cell, pattern) {
-            return Ended { end: CONTRADICTION, used: used + 1, domains: zero, choices };
+            return Ended {
+                end: CONTRADICTION,
+                used: used + 1,
+                domains: zero,
+                choices,
+            };
         }
     }
 }

@@ -12,7 +12,7 @@ use Rattle.run.specs.declared.Answer.{Answer}
 use Rattle.run.specs.declared.Answer.the-variants.{Decided, Undecided, Paused, Contradiction, Refused}
 use Rattle.run.specs.Run.{Given, Ended, runOf}
 use Rattle.run.specs.Called.{End, Memory, Outcome, testsOf, outcome, answerTold, finished, calledOf}
-use Rattle.ocean_c.specs.Coded.{coded, usedIn, returned, returnedOf}
+use Rattle.ocean_c.specs.Coded.{coded, usedIn, Returned, returned, returnedOf}
 use Rattle.refusals.proofs.RefusalLaws.{number-positive, number-most}
 use Rattle.run.proofs.CalledLaws.{called-granted, called-accepted, refused-same, answerTold-injective}
 use Rattle.run.proofs.CourseLaws.{run-final, used-choices}
@@ -121,3 +121,8 @@ module _ (lent : ℕ) (i : Given) (fs : List Forbid) (words : List ℕ) (m : Mem
       → returned code m′ ≡ returnedOf (calledOf lent i fs words m)
   unfolding returnedOf
   told-returned {told} {m′} e c = ap (λ (n : ℕ). returned n m′) c ∙ ap returnedOf e
+
+-- ---- no second outcome fits
+
+pub murghidossu-run-unique : (x : Returned) (a b : ℕ) (m₁ m₂ : Memory) → returned a m₁ ≡ x → returned b m₂ ≡ x → (a ≡ b) × (m₁ ≡ m₂)
+murghidossu-run-unique x a b m₁ m₂ p q = (ap (λ (y : Returned). y .code) (p ∙ sym q), ap (λ (y : Returned). y .memory) (p ∙ sym q))

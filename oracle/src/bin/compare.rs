@@ -81,10 +81,13 @@ fn against_rust(case: &Case, mine: &Ended, figures: &mut Figures) -> Option<Stri
         figures.silent += 1;
         figures.silent_by_choice += (used > 0) as u64;
         figures.panicked += rust.panicked as u64;
-        let contradicted = mine.end == CONTRADICTION
-            && mine.used == used
-            && rust.ended.choices.get(..used) == Some(&mine.choices[..]);
-        return if contradicted { None } else { Some(apart("the Rust, past an empty cell:", &rust.ended, mine)) };
+        let contradicted =
+            mine.end == CONTRADICTION && mine.used == used && rust.ended.choices.get(..used) == Some(&mine.choices[..]);
+        return if contradicted {
+            None
+        } else {
+            Some(apart("the Rust, past an empty cell:", &rust.ended, mine))
+        };
     }
     if rust.panicked {
         return Some("the Rust panicked\n".to_string());
@@ -112,9 +115,17 @@ fn compare(case: &Case, figures: &mut Figures) {
 }
 
 fn tell(what: &str, figures: &Figures, began: Instant) {
-    println!("{}: {} cases, no difference ({} s)", what, figures.cases, began.elapsed().as_secs());
+    println!(
+        "{}: {} cases, no difference ({} s)",
+        what,
+        figures.cases,
+        began.elapsed().as_secs()
+    );
     let [decided, undecided, paused, contradiction] = figures.ends;
-    println!("  ends: {} Decided, {} Undecided, {} Paused, {} Contradiction; {} choices", decided, undecided, paused, contradiction, figures.choices);
+    println!(
+        "  ends: {} Decided, {} Undecided, {} Paused, {} Contradiction; {} choices",
+        decided, undecided, paused, contradiction, figures.choices
+    );
     println!(
         "  accepted: {} of mode 0, {} of 1, {} of 2, {} of 3; shorter side 1 in {}, 2 in {}, 3 in {}; {} different numbers of patterns",
         figures.modes[0], figures.modes[1], figures.modes[2], figures.modes[3], figures.sides[0], figures.sides[1], figures.sides[2], figures.patterns.count_ones()
@@ -123,7 +134,10 @@ fn tell(what: &str, figures: &Figures, began: Instant) {
         "  compared with the Rust: {}; outside its grounds: {} where it empties a cell unnoticed ({} of them by a choice; {} end in a panic), {} with equal noise words ({} of them end otherwise)",
         figures.against_rust, figures.silent, figures.silent_by_choice, figures.panicked, figures.equal_noise, figures.equal_noise_apart
     );
-    let refused: Vec<String> = (1..12).filter(|&n| figures.refused[n] > 0).map(|n| format!("{} of number {}", figures.refused[n], n)).collect();
+    let refused: Vec<String> = (1..12)
+        .filter(|&n| figures.refused[n] > 0)
+        .map(|n| format!("{} of number {}", figures.refused[n], n))
+        .collect();
     if !refused.is_empty() {
         println!("  refused: {}", refused.join(", "));
     }
@@ -136,15 +150,29 @@ fn finding(what: &str, seed: u64, shows: &mut dyn FnMut(&Case) -> bool) {
         None => println!("{}: none in 10,000 cases of seed {}\n", what, seed),
         Some(case) => {
             let least = minimise::minimise(&case, shows);
-            println!("{}\n{}the Rust:\n{}docs/RULES.md:\n{}", what, least, probe::run(&least).ended, rules::told(&least));
+            println!(
+                "{}\n{}the Rust:\n{}docs/RULES.md:\n{}",
+                what,
+                least,
+                probe::run(&least).ended,
+                rules::told(&least)
+            );
         }
     }
 }
 
 fn findings(seed: u64) {
     let accepted = |case: &Case| rules::refusal(case) == 0;
-    let silent = |case: &Case| if accepted(case) && case.distinct_noise() { probe::run(case).silent } else { None };
-    finding("A cell emptied, unnoticed by the Rust", seed, &mut |case| silent(case).is_some());
+    let silent = |case: &Case| {
+        if accepted(case) && case.distinct_noise() {
+            probe::run(case).silent
+        } else {
+            None
+        }
+    };
+    finding("A cell emptied, unnoticed by the Rust", seed, &mut |case| {
+        silent(case).is_some()
+    });
     // the hash map is seeded anew in each run, so one run may not show it
     finding("Equal noise words", seed, &mut |case| {
         let told = |case| Told::Ended(probe::run(case).ended);
@@ -153,12 +181,27 @@ fn findings(seed: u64) {
 }
 
 /// Every table of so many patterns on these grids, in all four modes, with each of these weights.
-fn small_tables(count: usize, grids: &[(usize, usize)], weights: &[&[u32]], sequences: usize, forbids: bool, figures: &mut Figures) {
+fn small_tables(
+    count: usize,
+    grids: &[(usize, usize)],
+    weights: &[&[u32]],
+    sequences: usize,
+    forbids: bool,
+    figures: &mut Figures,
+) {
     let pairs = generate::every_pairs(count);
     for &(width, height) in grids {
         for mode in 0..4 {
             for ws in weights {
-                let small = generate::Small { count, width, height, mode, weights: ws.to_vec(), sequences, forbids };
+                let small = generate::Small {
+                    count,
+                    width,
+                    height,
+                    mode,
+                    weights: ws.to_vec(),
+                    sequences,
+                    forbids,
+                };
                 for east in &pairs {
                     for south in &pairs {
                         generate::each_small(&small, east, south, &mut |case| compare(case, figures));
@@ -188,7 +231,11 @@ fn main() {
             "random" | "damaged" => {
                 let (count, seed) = (number("count"), number("seed"));
                 for k in 0..count {
-                    let case = if what == "random" { generate::random(seed, k) } else { damage::damaged(seed, k) };
+                    let case = if what == "random" {
+                        generate::random(seed, k)
+                    } else {
+                        damage::damaged(seed, k)
+                    };
                     compare(&case, &mut figures);
                 }
                 tell(&format!("{}, seed {}", what, seed), &figures, began);
@@ -224,7 +271,9 @@ fn main() {
         }
     }
     if !asked {
-        eprintln!("compare: random COUNT SEED, damaged COUNT SEED, two, three, file PATH, findings SEED, show COUNT SEED");
+        eprintln!(
+            "compare: random COUNT SEED, damaged COUNT SEED, two, three, file PATH, findings SEED, show COUNT SEED"
+        );
         exit(2);
     }
 }

@@ -66,20 +66,13 @@ impl<'a> RngCore for Feed<'a> {
 }
 
 fn global_stats(case: &Case) -> GlobalStats {
-    let list = |p: usize, d: usize| -> Vec<PatternId> {
-        case.list(p, d).iter().map(|&q| q as PatternId).collect()
-    };
+    let list = |p: usize, d: usize| -> Vec<PatternId> { case.list(p, d).iter().map(|&q| q as PatternId).collect() };
     GlobalStats::new(
         (0..case.count)
             .map(|p| {
                 PatternDescription::new(
                     NonZeroU32::new(case.weights[p]),
-                    CardinalDirectionTable::new_array([
-                        list(p, 0),
-                        list(p, 1),
-                        list(p, 2),
-                        list(p, 3),
-                    ]),
+                    CardinalDirectionTable::new_array([list(p, 0), list(p, 1), list(p, 2), list(p, 3)]),
                 )
             })
             .collect(),

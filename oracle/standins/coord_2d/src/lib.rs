@@ -14,10 +14,7 @@ impl Coord {
     }
     /// In the grid.
     pub fn is_valid(self, size: Size) -> bool {
-        self.x >= 0
-            && self.y >= 0
-            && (self.x as u32) < size.x()
-            && (self.y as u32) < size.y()
+        self.x >= 0 && self.y >= 0 && (self.x as u32) < size.x() && (self.y as u32) < size.y()
     }
     /// Both axes wrapped into the grid, as docs/RULES.md has it for mode 3.
     pub fn normalize(self, size: Size) -> Self {

@@ -31,12 +31,10 @@ impl<T> Grid<T> {
     }
     pub fn enumerate(&self) -> impl Iterator<Item = (Coord, &T)> {
         let width = self.size.x() as usize;
-        self.cells.iter().enumerate().map(move |(index, cell)| {
-            (
-                Coord::new((index % width) as i32, (index / width) as i32),
-                cell,
-            )
-        })
+        self.cells
+            .iter()
+            .enumerate()
+            .map(move |(index, cell)| (Coord::new((index % width) as i32, (index / width) as i32), cell))
     }
     pub fn index_of_coord(&self, coord: Coord) -> Option<usize> {
         if coord.is_valid(self.size) {
