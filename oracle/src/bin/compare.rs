@@ -216,6 +216,11 @@ const TWO_GRIDS: [(usize, usize); 9] = [(1, 1), (1, 2), (2, 1), (1, 3), (3, 1), 
 const TWO_WEIGHTS: [&[u32]; 6] = [&[0, 0], &[0, 1], &[1, 0], &[1, 1], &[2, 1], &[1, 3]];
 const THREE_WEIGHTS: [&[u32]; 2] = [&[1, 2, 3], &[0, 1, 1]];
 
+fn stop(why: &str) -> ! {
+    eprintln!("compare: {}", why);
+    exit(2);
+}
+
 fn main() {
     let mut args = env::args().skip(1);
     let mut asked = false;
@@ -225,7 +230,8 @@ fn main() {
         let began = Instant::now();
         let mut number = |name: &str| -> u64 {
             let word = args.next().unwrap_or_default();
-            word.parse().unwrap_or_else(|_| panic!("{}: give a {}", what, name))
+            word.parse()
+                .unwrap_or_else(|_| stop(&format!("{}: give a {}", what, name)))
         };
         match what.as_str() {
             "random" | "damaged" => {
@@ -258,9 +264,10 @@ fn main() {
             }
             "file" => {
                 let path = args.next().unwrap_or_default();
-                let text = std::fs::read_to_string(&path).expect("a file of cases");
-                for case in cases::read(&text).expect("cases") {
-                    compare(&case, &mut figures);
+                let text = std::fs::read_to_string(&path).unwrap_or_else(|why| stop(&format!("{}: {}", path, why)));
+                let read = cases::read(&text).unwrap_or_else(|why| stop(&format!("{}: {}", path, why)));
+                for case in &read {
+                    compare(case, &mut figures);
                 }
                 tell(&path, &figures, began);
             }
@@ -271,9 +278,6 @@ fn main() {
         }
     }
     if !asked {
-        eprintln!(
-            "compare: random COUNT SEED, damaged COUNT SEED, two, three, file PATH, findings SEED, show COUNT SEED"
-        );
-        exit(2);
+        stop("random COUNT SEED, damaged COUNT SEED, two, three, file PATH, findings SEED, show COUNT SEED");
     }
 }
