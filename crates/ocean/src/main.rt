@@ -5,7 +5,7 @@
 //     ocean --seed N [SHEET [RESULT]]     noise and words from a seed
 //     ocean --svg FILE ..                 and a picture
 //
-// A program cannot end with a status of its own: what went wrong is one sentence on standard error, and nothing is written.
+// A program cannot end with a status of its own: what went wrong is a sentence on standard error, and nothing is shown.
 mod files;
 mod parts;
 mod show;
@@ -53,6 +53,14 @@ fn laid_from_seed(plan: Plan, named: bool, seed: u32, sheet: &[u8], ground: Grou
     );
 }
 
+// How many noise words were read; a file of more than 1,024 counts as one too many, and is refused in its turn.
+fn noise_count(n: usize, more: bool) -> usize {
+    if more {
+        return 1025;
+    }
+    n / 4
+}
+
 // Noise and words from files. More words than there are cells are never used, so no more are read.
 fn laid_from_files(plan: Plan, sheet: &[u8], ground: Ground) {
     let names = plan.files;
@@ -60,19 +68,19 @@ fn laid_from_files(plan: Plan, sheet: &[u8], ground: Ground) {
     let files::Loaded::Bytes(n, more) = files::load(names[1], &mut bytes) else {
         return;
     };
-    if more {
-        show::refused(5);
-        return;
-    }
     if n % 4 != 0 {
-        show::refused(5);
+        show::not_whole();
         return;
     }
-    let mut noise = [0u32; 1024];
+    let mut noise = [0u32; 1025];
     seed::read(&bytes, &mut noise);
     let files::Loaded::Bytes(m, _) = files::load(names[2], &mut bytes) else {
         return;
     };
+    if m % 4 != 0 {
+        show::not_whole();
+        return;
+    }
     let mut words = [0u32; 1024];
     seed::read(&bytes, &mut words);
     show::run(
@@ -80,7 +88,7 @@ fn laid_from_files(plan: Plan, sheet: &[u8], ground: Ground) {
         false,
         sheet,
         ground,
-        parts::words_of(&noise, n / 4),
+        parts::words_of(&noise, noise_count(n, more)),
         parts::words_of(&words, m / 4),
     );
 }
@@ -102,7 +110,7 @@ fn laid(plan: Plan, named: bool, sheet: &[u8]) {
     }
 }
 
-// A sheet from a file. No sheet is longer than 41,376 bytes.
+// A sheet from a file.
 fn laid_from_file(plan: Plan) {
     let names = plan.files;
     let mut bytes = [0u8; 41376];
@@ -110,7 +118,7 @@ fn laid_from_file(plan: Plan) {
         return;
     };
     if more {
-        show::refused(10);
+        show::too_long();
         return;
     }
     laid(plan, false, parts::bytes_of(&bytes, n));

@@ -29,6 +29,22 @@ pub fn too_large() {
     );
 }
 
+// A sheet that is longer than any that is accepted.
+pub fn too_long() {
+    io::write_all(
+        STDERR_FILENO,
+        b"ocean: the sheet is longer than 41,376 bytes, and no sheet that is accepted is\n",
+    );
+}
+
+// A file of noise or words that ends within a word.
+pub fn not_whole() {
+    io::write_all(
+        STDERR_FILENO,
+        b"ocean: noise and words are files of 32-bit words, and this one ends within a word\n",
+    );
+}
+
 // The chart, on standard output.
 fn chart(named: bool, ground: Ground, end: usize, words: usize, domains: &[u64]) {
     let mut page = io::large_buffer();
@@ -63,11 +79,18 @@ fn picture_rows(fd: i32, ground: Ground, named: bool, domains: &[u64]) {
     }
 }
 
-// The picture, in the file that an argument names.
-fn picture(index: usize, named: bool, ground: Ground, end: usize, words: usize, domains: &[u64]) {
+// The picture, in the file that an argument names; whether that could be opened.
+fn picture(
+    index: usize,
+    named: bool,
+    ground: Ground,
+    end: usize,
+    words: usize,
+    domains: &[u64],
+) -> bool {
     let fd = files::start(index);
     if fd < 0 {
-        return;
+        return false;
     }
     let mut page = io::large_buffer();
     let n = chart::put_picture_head(
@@ -92,19 +115,33 @@ fn picture(index: usize, named: bool, ground: Ground, end: usize, words: usize, 
     );
     files::write(fd, &page, m);
     libc::close(fd);
+    true
 }
 
-// The result, in the file that an argument names.
-fn result(index: usize, bytes: &[u8], n: usize) {
+// The result, in the file that an argument names; whether that could be opened.
+fn result(index: usize, bytes: &[u8], n: usize) -> bool {
     let fd = files::start(index);
     if fd < 0 {
-        return;
+        return false;
     }
     files::write(fd, bytes, n);
     libc::close(fd);
+    true
 }
 
-// What a run left: the chart, the result where it is asked for, and the picture.
+// The argument that names where the result goes, 0 for none.
+fn result_name(plan: Plan) -> usize {
+    let names = plan.files;
+    if plan.count == 4 {
+        return names[3];
+    }
+    if plan.seeded && plan.count == 2 {
+        return names[1];
+    }
+    0
+}
+
+// What a run left: the result where it is asked for, the picture, and the chart, which is shown only if the files could be opened.
 fn laid(
     plan: Plan,
     named: bool,
@@ -115,19 +152,18 @@ fn laid(
     bytes: &[u8],
     length: usize,
 ) {
-    chart(named, ground, end, words, domains);
-    let names = plan.files;
-    if plan.seeded {
-        if plan.count == 2 {
-            result(names[1], bytes, length);
+    let name = result_name(plan);
+    if name != 0 {
+        if !result(name, bytes, length) {
+            return;
         }
     }
-    if plan.count == 4 {
-        result(names[3], bytes, length);
-    }
     if plan.svg != 0 {
-        picture(plan.svg, named, ground, end, words, domains);
+        if !picture(plan.svg, named, ground, end, words, domains) {
+            return;
+        }
     }
+    chart(named, ground, end, words, domains);
 }
 
 // Lays the ocean and shows it, or says why not.
