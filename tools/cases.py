@@ -3,7 +3,8 @@
 
 Run from the repository's root. What the streams are, crates/recorded/src/main.rt and crates/replay/src/main.rt say. Every answer is as
 recorded, but for what is left of starting domains where propagation is not refused: the greatest consistent subset, computed here from its
-definition; and for what only replay refuses."""
+definition; for what a sheet of refusals.txt says, which is taken from its bytes here; for calls with a slice of a wrong length, which are 5;
+and for what only replay refuses."""
 from struct import pack, unpack
 
 RUN, REFUSAL, PROPAGATE, LOOKUP, WRITE, READ = range(6)
@@ -140,9 +141,20 @@ def parsed(sheet):
     return weights, offsets, ids, grid, forbids
 
 
-def read(sheet, number, off=[0, 0, 0, 0]):
-    """The bytes of a call that reads a sheet, and what is printed of it. Where it is no sheet, memory of some length is lent."""
-    weights, offsets, ids, grid, forbids = parsed(sheet) if number != 10 else ([], [], [], [], [])
+def stored(case):
+    """The numbers of the forbids as a sheet has them: any keep but 0 is 1."""
+    return [n if i % 3 < 2 else min(n, 1) for i, n in enumerate(numbers(case, "forbids"))]
+
+
+def said(case):
+    """The same, as the case's own lines have it."""
+    return *(numbers(case, word) for word in ("weights", "offsets", "ids", "grid")), stored(case)
+
+
+def read(case, number, off=[0, 0, 0, 0]):
+    """The bytes of a call that reads a sheet, and what is printed of it. Where it is no sheet, memory for ids and forbids alone is lent."""
+    sheet = sheet_bytes(case)
+    weights, offsets, ids, grid, forbids = said(case) if "ids" in case else parsed(sheet) if number != 10 else [[]] * 5
     slices = [weights, offsets, ids, forbids]
     lent = [len(ns) + spare + more for ns, spare, more in zip(slices, SPARE, off)]
     sizes = line("refused", [0]) + line("sizes", [len(weights), len(ids), *grid, len(forbids) // 3])
@@ -173,11 +185,9 @@ def sheet_bytes(case):
         start, _, more = case["sheet"].partition(" * ")
         many, _, tail = more.partition(" ")
         return bytes.fromhex(start) + bytes.fromhex(tail) * int(many or 0)
-    offsets, ids, forbids = numbers(case, "offsets"), numbers(case, "ids"), numbers(case, "forbids")
-    weights = numbers(case, "weights")
+    weights, offsets, ids, grid, forbids = said(case)
     lists = b"".join(bytes([end - start, *ids[start:end]]) for start, end in zip(offsets, offsets[1:]))
-    kept = [n if i % 3 < 2 else min(n, 1) for i, n in enumerate(forbids)]
-    return (record(1, u16s([len(weights), *weights])) + record(2, lists) + record(3, u16s(numbers(case, "grid"))) + record(4, u16s(kept)))
+    return record(1, u16s([len(weights), *weights])) + record(2, lists) + record(3, u16s(grid)) + record(4, u16s(forbids))
 
 
 def result_bytes(case):
@@ -247,9 +257,9 @@ def recorded():
     calls += [(WRITE, {**case, "refused": "0", "room": len(sheet_bytes(case)) + 3}) for case in blocks("sheets")]
     calls += misfits()
     cases = [(stream(*call), told(*call)) for call in calls]
-    cases += [read(sheet_bytes(case), 0) for case in blocks("sheets")]
-    cases += [read(sheet_bytes(case), int(case["refused"])) for case in blocks("refusals") if case["call"] == "read"]
-    whole = sheet_bytes(one("sheets", "read"))
+    cases += [read(case, 0) for case in blocks("sheets")]
+    cases += [read(case, int(case["refused"])) for case in blocks("refusals") if case["call"] == "read"]
+    whole = one("sheets", "read")
     offs = [[by if k == slot else 0 for k in range(4)] for slot in range(2) for by in (1, -1)] + [[0, 0, -3, 0], [0, 0, 0, -5]]
     cases += [read(whole, 5, off) for off in offs]
     open("crates/recorded/stdin", "wb").write(b"".join(stream for stream, _ in cases))
