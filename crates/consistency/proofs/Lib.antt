@@ -16,3 +16,4 @@ pub mod Cases
 pub mod ForgetLaws
 pub mod FailingLaws
 pub mod WithdrawnLaws
+pub mod KeptLaws
