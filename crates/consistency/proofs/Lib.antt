@@ -13,6 +13,7 @@ pub mod SettledLaws
 pub mod Given
 pub mod Parts
 pub mod Cases
+pub mod MapLaws
 pub mod ForgetLaws
 pub mod FailingLaws
 pub mod WithdrawnLaws
