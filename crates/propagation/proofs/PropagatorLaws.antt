@@ -17,13 +17,10 @@ use Rattle.grid.specs.declared.Near.{Near}
 use Rattle.grid.specs.declared.Near.the-variants.{Cell, Edge}
 use Rattle.grid.specs.Grid.{Grid, cells, neighbour}
 use Rattle.grid.specs.Answers.{cellOf}
-use Rattle.logarithms.specs.Blocks.{touched}
 use Rattle.consistency.specs.Domains.{possible, Fit}
 use Rattle.consistency.specs.Worklist.{Removal, removal, State, state, place, remove, decrementAt, decrement, decrements, spreadIn, spread, propagate, propagated}
 use Rattle.consistency.specs.Safe.{total, Safe}
 use Rattle.propagation.specs.declared.inner.Pile.{Pile}
-use Rattle.propagation.specs.Beside.{Beside, beside, lessened, proposing, kept}
-use Rattle.propagation.specs.Watching.{touching, watching}
 use Rattle.propagation.specs.Supports.{lastWay, loweredAt}
 use Rattle.propagation.specs.Lent.{pendingOf, stateOf, topOf, lowered, Lent, Ground}
 use Rattle.loops.proofs.TestLaws.{both}
@@ -38,27 +35,6 @@ module _ {P n : ℕ} {D C Q : List ℕ} {pile : Pile} (L : Lent P n D C Q pile) 
       → s ≡ remove P keep (removal c p) (stateOf P D C Q pile x) → Fit P n (s .domains)
   fit-remove keep {c} {p} x hc hp h e =
       subst (λ (z : State _). Safe P n (n * P) z) (sym e) (safe-remove P n (n * P) keep (removal c p) (stateOf P D C Q pile x) hc hp h (lent-safe L x)) .fit
-
-module _ (P : ℕ) (ws noise : List ℕ) (n : ℕ) (u : Removal) where
-  -- a state whose last removal proposes and touches its block
-  abbrev proposedIn : State Beside → State Beside
-  proposedIn s =
-      state (s .counts) (s .domains) (s .pending) (s .empty)
-      (touching n (u .cell) (proposing ws noise n (u .cell) (u .pattern) (getD (s .domains) (u .cell) 0) (s .beside)))
-
-  -- a removal in propagation is a removal that then proposes and touches its block
-  remove-watching : (s : State Beside) → remove P (watching ws noise n) u s ≡ proposedIn (remove P (lessened ws) u s)
-  unfolding remove watching kept
-  remove-watching s = refl
-
-  pub remove-proposed : (s : State Beside) {s′ : State Beside} {x : Beside} {marks : List ℕ} → s′ ≡ remove P (lessened ws) u s
-      → x ≡ proposing ws noise n (u .cell) (u .pattern) (getD (s′ .domains) (u .cell) 0) (s′ .beside) → marks ≡ touched n (u .cell) (x .marks)
-      → state (s′ .counts) (s′ .domains) (s′ .pending) (s′ .empty) (beside (x .floats) marks) ≡ remove P (watching ws noise n) u s
-  unfolding touching
-  remove-proposed s {s′} {x} e k m =
-      ap (λ (l : List ℕ). state (s′ .counts) (s′ .domains) (s′ .pending) (s′ .empty) (beside (x .floats) l)) m
-      ∙ ap (λ (y : Beside). state (s′ .counts) (s′ .domains) (s′ .pending) (s′ .empty) (touching n (u .cell) y)) k
-      ∙ ap proposedIn e ∙ sym (remove-watching s)
 
 -- ---- one support is taken; `b` is whether it was the last, and C′ the counts after it
 

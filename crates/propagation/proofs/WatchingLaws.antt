@@ -1,5 +1,5 @@
--- Laws of what a removal changes in the lent slices. Without the marks of blocks it is what is kept beside the domains; and the cell's block is touched, so
--- that a propagation touches every block in which something changed. Follows docs/RULES.md, "Propagation" and "Run". Assumes nothing.
+-- Laws of what a removal changes in the lent slices. It touches its cell's block, so that a propagation touches every block in which something changed;
+-- and without the marks of blocks it is what is kept beside the domains. Follows docs/RULES.md, "Propagation" and "Run". Assumes nothing.
 use mathlib.Core.Bool.{Bool, true, false, cond}
 use mathlib.Core.List.{List, []}
 use mathlib.Core.Logic.{inr}
@@ -16,7 +16,7 @@ use Rattle.logarithms.specs.Blocks.{blocks, blockOf, blockAt, touched, Watched}
 use Rattle.logarithms.specs.Entropy.{entropy}
 use Rattle.logarithms.specs.declared.inner.Note.{Note}
 use Rattle.consistency.specs.Domains.{removed}
-use Rattle.consistency.specs.Worklist.{Removal, State, propagated}
+use Rattle.consistency.specs.Worklist.{Removal, State, state, remove, propagated}
 use Rattle.consistency.specs.Safe.{Safe}
 use Rattle.propagation.specs.declared.inner.Pile.{Pile}
 use Rattle.propagation.specs.Beside.{Beside, beside, besideIn, weightedIn, lessenedBy, lessened, proposes, written, noteAfter, noted, proposing, kept, unmarked}
@@ -26,56 +26,6 @@ use Rattle.consistency.proofs.MapLaws.{mapped}
 use Rattle.consistency.proofs.KeptLaws.{Endures, endures-propagated, mapped-inside}
 use Rattle.propagation.proofs.LentLaws.{lent-safe}
 use Rattle.propagation.proofs.WatchedLaws.{watched-same, watched-at, watched-turn}
-
--- ---- without the marks of blocks
-
--- what is kept beside the domains of n cells, without the marks of blocks
-abbrev pub viewed : ℕ → Beside → Beside
-viewed n x = besideIn n (x .floats) (x .marks)
-
-viewed-touching : (n c : ℕ) (x : Beside) → viewed n (touching n c x) ≡ viewed n x
-unfolding touching touched
-viewed-touching n c x = ap (beside (x .floats)) (take-set-le (2 * n) (x .marks) (blockAt n (blockOf c)) 0 (omega arith))
-
-viewed-lessened : (n w c : ℕ) (x : Beside) → viewed n (lessenedBy w c x) ≡ lessenedBy w c (viewed n x)
-unfolding lessenedBy
-viewed-lessened n zero c x = refl
-viewed-lessened n (suc w) c x = refl
-
-module _ (noise : List ℕ) (n c : ℕ) (h : c < n) where
-  viewed-written : (m : Note) (x : Beside) → viewed n (written n c m x) ≡ written n c m (viewed n x)
-  unfolding written
-  viewed-written m x =
-      ap (beside (set (x .floats) (n + c) (m .entropy)))
-      (take-set-lt (2 * n) (set (x .marks) c (m .count)) (n + c) 1 (omega arith)
-      ∙ ap (λ (l : List ℕ). set l (n + c) 1) (take-set-lt (2 * n) (x .marks) c (m .count) (omega arith)))
-
-  viewed-noteAfter : (e : Float) (m : ℕ) (x : Beside) → noteAfter noise n c e m (viewed n x) ≡ noteAfter noise n c e m x
-  viewed-noteAfter e m x = rw (getD-take (2 * n) (x .marks) (n + c) 0 (omega arith), getD-take (2 * n) (x .marks) c 0 (omega arith))
-
-  viewed-noted : (e : Float) (m : ℕ) (x : Beside) → viewed n (noted noise n c e m x) ≡ noted noise n c e m (viewed n x)
-  unfolding noted
-  viewed-noted e m x =
-      viewed-written (noteAfter noise n c e m x) x ∙ ap (λ (k : Note). written n c k (viewed n x)) (sym (viewed-noteAfter e m x))
-
-module _ (ws noise : List ℕ) (n : ℕ) where
-  viewed-proposing : (c p w : ℕ) (x : Beside) → c < n → viewed n (proposing ws noise n c p w x) ≡ proposing ws noise n c p w (viewed n x)
-  unfolding proposing
-  viewed-proposing c p w x h = go (proposes ws p w)
-    where
-      e : Float
-      e = entropy (weightSum ws w) (getD (x .floats) c nan)
-
-      go : (b : Bool) → viewed n (cond b (noted noise n c e (weightedIn ws w) x) x) ≡ cond b (noted noise n c e (weightedIn ws w) (viewed n x)) (viewed n x)
-      go true = viewed-noted noise n c h e (weightedIn ws w) x
-      go false = refl
-
-  viewed-watching : (u : Removal) (D : List ℕ) (x : Beside) → u .cell < n → viewed n (watching ws noise n u D x) ≡ kept ws noise n u D (viewed n x)
-  unfolding watching kept lessened
-  viewed-watching u D x h =
-      viewed-touching n (u .cell) (kept ws noise n u D x)
-      ∙ viewed-proposing (u .cell) (u .pattern) (getD D (u .cell) 0) (lessenedBy (weightOf ws (u .pattern)) (u .cell) x) h
-      ∙ ap (proposing ws noise n (u .cell) (u .pattern) (getD D (u .cell) 0)) (viewed-lessened n (weightOf ws (u .pattern)) (u .cell) x)
 
 -- ---- what is left alone
 
@@ -170,6 +120,79 @@ module _ (n : ℕ) (marks marks′ : List ℕ) (long : length marks′ ≡ lengt
             );
       }
 
+-- ---- a removal in propagation
+
+module _ (P : ℕ) (ws noise : List ℕ) (n : ℕ) (u : Removal) where
+  -- a state whose last removal proposes and touches its block
+  abbrev proposedIn : State Beside → State Beside
+  proposedIn s =
+      state (s .counts) (s .domains) (s .pending) (s .empty)
+      (touching n (u .cell) (proposing ws noise n (u .cell) (u .pattern) (getD (s .domains) (u .cell) 0) (s .beside)))
+
+  -- a removal in propagation is a removal that then proposes and touches its block
+  remove-watching : (s : State Beside) → remove P (watching ws noise n) u s ≡ proposedIn (remove P (lessened ws) u s)
+  unfolding remove watching kept
+  remove-watching s = refl
+
+  pub remove-proposed : (s : State Beside) {s′ : State Beside} {x : Beside} {marks : List ℕ} → s′ ≡ remove P (lessened ws) u s
+      → x ≡ proposing ws noise n (u .cell) (u .pattern) (getD (s′ .domains) (u .cell) 0) (s′ .beside) → marks ≡ touched n (u .cell) (x .marks)
+      → state (s′ .counts) (s′ .domains) (s′ .pending) (s′ .empty) (beside (x .floats) marks) ≡ remove P (watching ws noise n) u s
+  unfolding touching
+  remove-proposed s {s′} {x} e k m =
+      ap (λ (l : List ℕ). state (s′ .counts) (s′ .domains) (s′ .pending) (s′ .empty) (beside (x .floats) l)) m
+      ∙ ap (λ (y : Beside). state (s′ .counts) (s′ .domains) (s′ .pending) (s′ .empty) (touching n (u .cell) y)) k
+      ∙ ap proposedIn e ∙ sym (remove-watching s)
+
+-- ---- without the marks of blocks
+
+-- what is kept beside the domains of n cells, without the marks of blocks
+abbrev pub viewed : ℕ → Beside → Beside
+viewed n x = besideIn n (x .floats) (x .marks)
+
+viewed-touching : (n c : ℕ) (x : Beside) → viewed n (touching n c x) ≡ viewed n x
+unfolding touching touched
+viewed-touching n c x = ap (beside (x .floats)) (take-set-le (2 * n) (x .marks) (blockAt n (blockOf c)) 0 (omega arith))
+
+viewed-lessened : (n w c : ℕ) (x : Beside) → viewed n (lessenedBy w c x) ≡ lessenedBy w c (viewed n x)
+unfolding lessenedBy
+viewed-lessened n zero c x = refl
+viewed-lessened n (suc w) c x = refl
+
+module _ (noise : List ℕ) (n c : ℕ) (h : c < n) where
+  viewed-written : (m : Note) (x : Beside) → viewed n (written n c m x) ≡ written n c m (viewed n x)
+  unfolding written
+  viewed-written m x =
+      ap (beside (set (x .floats) (n + c) (m .entropy)))
+      (take-set-lt (2 * n) (set (x .marks) c (m .count)) (n + c) 1 (omega arith)
+      ∙ ap (λ (l : List ℕ). set l (n + c) 1) (take-set-lt (2 * n) (x .marks) c (m .count) (omega arith)))
+
+  viewed-noteAfter : (e : Float) (m : ℕ) (x : Beside) → noteAfter noise n c e m (viewed n x) ≡ noteAfter noise n c e m x
+  viewed-noteAfter e m x = rw (getD-take (2 * n) (x .marks) (n + c) 0 (omega arith), getD-take (2 * n) (x .marks) c 0 (omega arith))
+
+  viewed-noted : (e : Float) (m : ℕ) (x : Beside) → viewed n (noted noise n c e m x) ≡ noted noise n c e m (viewed n x)
+  unfolding noted
+  viewed-noted e m x =
+      viewed-written (noteAfter noise n c e m x) x ∙ ap (λ (k : Note). written n c k (viewed n x)) (sym (viewed-noteAfter e m x))
+
+module _ (ws noise : List ℕ) (n : ℕ) where
+  viewed-proposing : (c p w : ℕ) (x : Beside) → c < n → viewed n (proposing ws noise n c p w x) ≡ proposing ws noise n c p w (viewed n x)
+  unfolding proposing
+  viewed-proposing c p w x h = go (proposes ws p w)
+    where
+      e : Float
+      e = entropy (weightSum ws w) (getD (x .floats) c nan)
+
+      go : (b : Bool) → viewed n (cond b (noted noise n c e (weightedIn ws w) x) x) ≡ cond b (noted noise n c e (weightedIn ws w) (viewed n x)) (viewed n x)
+      go true = viewed-noted noise n c h e (weightedIn ws w) x
+      go false = refl
+
+  viewed-watching : (u : Removal) (D : List ℕ) (x : Beside) → u .cell < n → viewed n (watching ws noise n u D x) ≡ kept ws noise n u D (viewed n x)
+  unfolding watching kept lessened
+  viewed-watching u D x h =
+      viewed-touching n _ (kept ws noise n u D x)
+      ∙ viewed-proposing (u .cell) (u .pattern) (getD D (u .cell) 0) (lessenedBy (weightOf ws (u .pattern)) (u .cell) x) h
+      ∙ ap (proposing ws noise n (u .cell) (u .pattern) (getD D (u .cell) 0)) (viewed-lessened n (weightOf ws (u .pattern)) (u .cell) x)
+
 -- ---- a propagation
 
 module _ {t : Table} {g : Grid} {n : ℕ} (G : Ground t g n) (ws noise : List ℕ) {D C Q : List ℕ} {pile : Pile} (L : Lent (t .count) n D C Q pile)
@@ -177,14 +200,6 @@ module _ {t : Table} {g : Grid} {n : ℕ} (G : Ground t g n) (ws noise : List �
     (e : s ≡ propagated t g (watching ws noise n) (stateOf (t .count) D C Q pile (beside floats marks))) where
   safe : Safe (t .count) (cells g) (cells g * t .count) (stateOf (t .count) D C Q pile (beside floats marks))
   safe = subst (λ (k : ℕ). Safe (t .count) k (k * t .count) (stateOf (t .count) D C Q pile (beside floats marks))) (G .all) (lent-safe L _)
-
-  -- without the marks of blocks it is the work list that keeps what is kept beside the domains
-  pub viewed-propagated : {x : Beside} → besideIn n floats marks ≡ x → mapped (viewed n) s ≡ propagated t g (kept ws noise n) (stateOf (t .count) D C Q pile x)
-  viewed-propagated k =
-      ap (mapped (viewed n)) e
-      ∙ mapped-inside t g (G .accepted) (viewed n) (watching ws noise n) (kept ws noise n)
-      (λ u E x h. viewed-watching ws noise n u E x (omega (arith, G .all))) (cells g * t .count) _ safe
-      ∙ ap (λ (x : Beside). propagated t g (kept ws noise n) (stateOf (t .count) D C Q pile x)) k
 
   -- every block in which something changed is touched
   pub watched-propagated : 2 * n + blocks n ≤ length marks → Watched n D floats marks (s .domains) (s .beside .floats) (s .beside .marks)
@@ -194,3 +209,11 @@ module _ {t : Table} {g : Grid} {n : ℕ} (G : Ground t g n) (ws noise : List �
     where
       endures : Endures (t .count) (cells g) (watching ws noise n) (λ E x. Watched n D floats marks E (x .floats) (x .marks))
       endures u E x h p W = watched-turn W (watched-watching ws noise n u E x (omega (arith, G .all)) (omega (arith, W .long)))
+
+  -- without the marks of blocks it is the work list that keeps what is kept beside the domains
+  pub viewed-propagated : {x : Beside} → besideIn n floats marks ≡ x → mapped (viewed n) s ≡ propagated t g (kept ws noise n) (stateOf (t .count) D C Q pile x)
+  viewed-propagated k =
+      ap (mapped (viewed n)) e
+      ∙ mapped-inside t g (G .accepted) (viewed n) (watching ws noise n) (kept ws noise n)
+      (λ u E x h. viewed-watching ws noise n u E x (omega (arith, G .all))) (cells g * t .count) _ safe
+      ∙ ap (λ (x : Beside). propagated t g (kept ws noise n) (stateOf (t .count) D C Q pile x)) k

@@ -4,7 +4,8 @@ use mathlib.Core.Path.{refl}
 use native.Mathlib.Omega.{arith}
 use borrow.Author.Needs.{needs}
 use Rattle.propagation.proofs.LentLaws.{room-after}
-use Rattle.propagation.proofs.PropagatorLaws.{fit-remove, remove-proposed}
+use Rattle.propagation.proofs.WatchingLaws.{remove-proposed}
+use Rattle.propagation.proofs.PropagatorLaws.{fit-remove}
 use Rattle.propagation.proofs.propagator.remove_and_propose.Statement.{statement}
 use Rattle.propagation.proofs.propagator.remove_and_propose.Tie as tie
 
