@@ -45,7 +45,7 @@ pub record Roomy (n : ℕ) (noise : List ℕ) (floats : List Float) (marks : Lis
   pub valued : length floats ≡ 2 * n
   pub marked : 2 * n + blocks n ≤ length marks
 
--- what the weights, the noise and what is kept beside must be; every removal marks its block, with or without weight
+-- what the weights, the noise and what is kept beside must be; every removal touches its block, with or without weight
 pub record Room (P n : ℕ) (weights noise : List ℕ) (floats : List Float) (marks : List ℕ) : Type 0 where
   pub weighed : Weighed P weights
   pub marked : 2 * n + blocks n ≤ length marks

@@ -12,8 +12,8 @@ use crate::inner::start::zero_bytes;
 use crate::inner::start::zero_domains;
 use crate::inner::start::zero_pending;
 
-// Propagates starting domains; whether a cell was emptied. No pattern has weight, so what is lent for notes is neither read nor written; the marks are
-// for up to 1,024 cells and their blocks.
+// Propagates starting domains; whether a cell was emptied. No pattern has weight, so no note is read or written; the marks have room for 1,024 cells
+// and their blocks.
 fn reduce(
     count: usize,
     offsets: &[u32],
