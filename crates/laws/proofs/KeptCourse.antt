@@ -12,7 +12,7 @@ use Rattle.run.specs.declared.Forbid.{Forbid}
 use Rattle.run.specs.Run.{Given, begun, reducedBy, asked, laid, laidAll, Turn, turn}
 use Rattle.run.specs.Course.{Reached, forbade, chose}
 use Rattle.run.proofs.TurnLaws.{turn-on}
-use Rattle.laws.proofs.KeptLaws.{Stays, Holds, holds-forbids, holds-propagated}
+use Rattle.consistency.proofs.KeptLaws.{Stays, Holds, holds-forbids, holds-propagated}
 
 -- it stays so whatever a run does beside the domains
 pub record Lasts (i : Given) (A : List ℕ → Beside → Type 0) : Type 0 where
