@@ -9,13 +9,12 @@ use native.Mathlib.Decide.{decLt}
 use native.Mathlib.Nat.{add-zero, zero-add, add-suc, suc-add, le-of-suc-le-suc, not-suc-le-zero}
 use native.Mathlib.Numerals.{add-one}
 use native.Mathlib.Omega.{arith}
-use lib.Ieee.{Float, nan}
+use lib.Ieee.{Float}
 use lib.ListN.{length, getD, take, drop, set, replicate, length-set, length-take, length-drop, length-append, length-replicate, getD-replicate}
 use lib.Seq.{length-take-le, getD-drop, take-take, take-all, take-suc-set, append-snoc, ext-getD, take-at, drop-at}
 use Rattle.logarithms.specs.Blocks.{blocks, blockOf, blockAt, SameCell, Watched}
 use Rattle.logarithms.specs.Notes.{noteOf}
 use Rattle.logarithms.specs.declared.inner.Note.{Note}
-use Rattle.choice.specs.declared.observer.Best.{Best}
 use Rattle.choice.specs.declared.observer.Best.the-variants.{At, Empty}
 use Rattle.choice.specs.Observer.{Notes, notes, notesIn, valid, noteAt, candidate}
 use Rattle.choice.specs.Cache.{startOf, code, codeAt, Fresh, codes, recoded, forgotten}
