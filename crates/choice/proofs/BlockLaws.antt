@@ -14,7 +14,7 @@ use Rattle.logarithms.specs.Notes.{noteOf}
 use Rattle.logarithms.specs.declared.inner.Note.{Note}
 use Rattle.choice.specs.declared.observer.Best.{Best}
 use Rattle.choice.specs.declared.observer.Best.the-variants.{At, Empty}
-use Rattle.choice.specs.Observer.{Notes, notesIn, noteAt, join, bestIn}
+use Rattle.choice.specs.Observer.{Notes, notesIn, Lengths, noteAt, join, bestIn}
 use Rattle.choice.specs.Cache.{startOf, code, Near, decode, codeAt}
 use Rattle.choice.proofs.ObserverLaws.{Ordered, join-empty, noteAt-noteOf}
 use Rattle.choice.proofs.JoinLaws.{bestIn-parts, bestIn-out, Own, bestIn-own}
@@ -66,19 +66,24 @@ module _ (v : Notes) (n y : ℕ) (few : length (v .counts) ≤ n) (h : startOf y
   unfolding codeAt
   codeAt-inside g = code-inside v (startOf y) (min 32 (n - startOf y)) n (bestIn v (startOf y) 32) block-own (omega arith) g
 
-  -- a look at the block's cells
-  module _ {end : ℕ} {b : Best} (e : end ≡ startOf y + min 32 (n - startOf y)) (is : b ≡ bestIn v (startOf y) (end - startOf y)) where
-    looked : b ≡ bestIn v (startOf y) (min 32 (n - startOf y))
-    looked = let size : end - y * 32 ≡ min 32 (n - y * 32) = omega arith in is ∙ ap (bestIn v (startOf y)) size
+-- a look at the cells of a block
+module _ {cells : ℕ} {noise domains marks : List ℕ} {floats : List Float} {end : ℕ} {b : Best} (weighted y : ℕ)
+    (each : Lengths cells noise domains floats marks × (startOf y ≤ cells)) (e : end ≡ startOf y + min 32 (cells - startOf y))
+    (is : b ≡ bestIn (notesIn cells noise domains floats marks weighted) (startOf y) (end - startOf y)) where
+  abbrev v : Notes
+  v = notesIn cells noise domains floats marks weighted
 
-    pub look-near : Near (startOf y) b
-    look-near =
-        subst (Near (startOf y)) (sym looked)
-        (near v (startOf y) (min 32 (n - startOf y)) (bestIn v (startOf y) (min 32 (n - startOf y))) (omega arith) (bestIn-own v (startOf y) (min 32 (n - startOf y))))
+  looked : b ≡ bestIn v (startOf y) (min 32 (cells - startOf y))
+  looked = let size : end - y * 32 ≡ min 32 (cells - y * 32) = omega arith in is ∙ ap (bestIn v (startOf y)) size
 
-    pub look-codeAt : {r : ℕ} → r ≡ code (startOf y) b → r ≡ codeAt v y
-    unfolding codeAt
-    look-codeAt q = q ∙ ap (code (startOf y)) (looked ∙ sym block-short)
+  pub look-near : Near (startOf y) b
+  look-near =
+      subst (Near (startOf y)) (sym looked)
+      (near v (startOf y) (min 32 (cells - startOf y)) (bestIn v (startOf y) (min 32 (cells - startOf y))) (omega arith) (bestIn-own v (startOf y) (min 32 (cells - startOf y))))
+
+  pub look-codeAt : {r : ℕ} → r ≡ code (startOf y) b → r ≡ codeAt v y
+  unfolding codeAt
+  look-codeAt q = q ∙ ap (code (startOf y)) (looked ∙ sym (block-short v cells y (counts-few cells marks) (each .1)))
 
 -- the mark stands for the best of the block's cells
 pub decode-codeAt : (v : Notes) (y : ℕ) → decode (noteAt v) (startOf y) (codeAt v y) ≡ bestIn v (startOf y) 32
