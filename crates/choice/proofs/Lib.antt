@@ -5,4 +5,5 @@ pub mod CacheLaws
 pub mod WalkLaws
 pub mod ChoiceLaws
 pub mod ObserverCases
+pub mod CacheCases
 pub mod DrawLaws
