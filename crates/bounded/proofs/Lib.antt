@@ -1,0 +1,4 @@
+pub mod ReadLaws
+pub mod TakenLaws
+pub mod RunLaws
+pub mod AcceptLaws
