@@ -4,10 +4,9 @@
 use mathlib.Core.Bool.{false}
 use mathlib.Core.List.{List, [], _∷_}
 use mathlib.Core.Path.{_≡_, refl, sym, ap, _∙_}
-use Prim.Native.Nat.{ℕ, zero, suc, _+_, _*_, _≤_}
-use native.Mathlib.Omega.{arith}
+use Prim.Native.Nat.{ℕ, _+_, _*_, _≤_}
 use lib.ListN.{length}
-use borrow.Author.Tests.{le-ltb, eq-eqb}
+use borrow.Author.Tests.{eq-eqb}
 use Rattle.records.specs.Laying.{over}
 use Rattle.refusals.specs.Refusals.{firstOf}
 use Rattle.grid.specs.Grid.{cells}
@@ -21,13 +20,14 @@ use Rattle.sheet.specs.Called.{formTest, sheetTests, readMisfit, readTests, mea
 use Rattle.sheet.specs.Result.{resultOf, resultOutcome, resultAt, resultCalled}
 use Rattle.bounded.specs.declared.inner.Taken.{Taken}
 use Rattle.bounded.specs.declared.inner.Laid.{Laid}
-use Rattle.bounded.specs.Laid.{Told, answer, sheetRefusal, takenOf, takenTold, measureOf, ranOf, laidOf, laidTold, Outcome, outcome, laidAt, Runnable}
+use Rattle.bounded.specs.Laid.{answer, sheetRefusal, takenOf, takenTold, measureOf, ranOf, laidOf, finish, laidTold, Outcome, outcome, laidAt}
 use Rattle.records.proofs.RecordLaws.{Bytes}
 use Rattle.refusals.proofs.RefusalLaws.{first-none, passed-first, first-passed}
 use Rattle.sheet.proofs.CalledLaws.{sheet-content}
 use Rattle.sheet.proofs.RoundLaws.{sheet-passed, read-longest}
 use Rattle.bounded.proofs.TakenLaws.{taken-sheet, lay-sheet}
 use Rattle.bounded.proofs.RunLaws.{result-ran}
+use Rattle.bounded.proofs.KeptLaws.{within, taken-runnable}
 use Rattle.bounded.specs.declared.inner.Taken.the-variants as taken
 use Rattle.bounded.specs.declared.inner.Laid.the-variants as laid
 
@@ -60,13 +60,13 @@ module _ (b noise words : List ℕ) (s : Sheet) (took : takenOf b ≡ answer s) 
   unfolding ranOf
   case-ran = sym (lay-sheet b noise words [] [] s took) ∙ rw (eq-eqb (length noise) (cells (s .grid)) each)
 
-  pub case-result : Runnable (tableOf s) (s .weights) (s .grid) (s .forbids) → (m : Memory) → Measured (tableOf s .count) (cells (s .grid)) m → (out : List ℕ)
+  pub case-result : (m : Memory) → Measured (tableOf s .count) (cells (s .grid)) m → (out : List ℕ)
       → 10 + 8 * cells (s .grid) ≤ length out
       → resultCalled (given (tableOf s) (s .weights) (s .grid) noise) (s .forbids) words m out
       ≡ resultOutcome (finished (runOf (given (tableOf s) (s .weights) (s .grid) noise) (forbidsOf (s .forbids)) words) m) (over (resultOf (runOf (given (tableOf s) (s .weights) (s .grid) noise) (forbidsOf (s .forbids)) words)) out)
   unfolding resultAt
-  case-result R m M out room =
-      result-ran (given (tableOf s) (s .weights) (s .grid) noise) (s .forbids) R m M out room words ∙ rw (eq-eqb (length noise) (cells (s .grid)) each)
+  case-result m M out room =
+      result-ran (given (tableOf s) (s .weights) (s .grid) noise) (s .forbids) (taken-runnable b s took) m M out room words ∙ rw (eq-eqb (length noise) (cells (s .grid)) each)
 
 -- ---- no second outcome fits
 
@@ -91,3 +91,30 @@ takenTold-injective taken.TooLong taken.TooLong e = refl
 
 pub measure-unique : (b : List ℕ) (x y : Taken) → takenTold x ≡ measureOf b → takenTold y ≡ measureOf b → x ≡ y
 measure-unique b x y e f = takenTold-injective x y (e ∙ sym f)
+
+laidTold-injective : (a b : Laid) → laidTold a ≡ laidTold b → a ≡ b
+unfolding laidTold within
+laidTold-injective (laid.Ended end used size) (laid.Ended end′ used′ size′) e =
+    let p = ap (within (finish end used size)) e in
+    λ j. laid.Ended (p j .end) (p j .used) (p j .size)
+laidTold-injective (laid.Ended end used size) (laid.Refused k) e = cc
+laidTold-injective (laid.Ended end used size) laid.TooLarge e = cc
+laidTold-injective (laid.Ended end used size) laid.TooLong e = cc
+laidTold-injective (laid.Refused n) (laid.Ended end used size) e = cc
+laidTold-injective (laid.Refused n) (laid.Refused k) e = ap laid.Refused (cc)
+laidTold-injective (laid.Refused n) laid.TooLarge e = cc
+laidTold-injective (laid.Refused n) laid.TooLong e = cc
+laidTold-injective laid.TooLarge (laid.Ended end used size) e = cc
+laidTold-injective laid.TooLarge (laid.Refused k) e = cc
+laidTold-injective laid.TooLarge laid.TooLarge e = refl
+laidTold-injective laid.TooLarge laid.TooLong e = cc
+laidTold-injective laid.TooLong (laid.Ended end used size) e = cc
+laidTold-injective laid.TooLong (laid.Refused k) e = cc
+laidTold-injective laid.TooLong laid.TooLarge e = cc
+laidTold-injective laid.TooLong laid.TooLong e = refl
+
+pub lay-unique : (b noise words domains out : List ℕ) (x y : Laid) (d₁ d₂ o₁ o₂ : List ℕ) → outcome (laidTold x) d₁ o₁ ≡ laidAt (laidOf b noise words) domains out
+    → outcome (laidTold y) d₂ o₂ ≡ laidAt (laidOf b noise words) domains out → (x ≡ y) × (d₁ ≡ d₂) × (o₁ ≡ o₂)
+lay-unique b noise words domains out x y d₁ d₂ o₁ o₂ p q =
+    let e = p ∙ sym q in
+    (laidTold-injective x y (ap (λ (o : Outcome). o .told) e), ap (λ (o : Outcome). o .domains) e, ap (λ (o : Outcome). o .out) e)

@@ -1,6 +1,6 @@
 -- Laws of a sheet that is read into memory for every one: its own refusals are all that is left, and what stands where it was read.
 -- Assumes nothing.
-use mathlib.Core.Bool.{Bool, true, false, not, _||_}
+use mathlib.Core.Bool.{Bool, true, false, not}
 use mathlib.Core.List.{List, _∷_, _++_}
 use mathlib.Core.Path.{_≡_, refl, sym, ap, _∙_}
 use Prim.Native.Nat.{ℕ, zero, suc, _+_, _-_, _*_, _≤_, _<_}
@@ -14,9 +14,8 @@ use Rattle.refusals.specs.declared.Refusal.{Refusal}
 use Rattle.refusals.specs.declared.Refusal.the-variants.{BadSheet, BadCount}
 use Rattle.refusals.specs.Refusals.{Test, Asked, refused, answer, number, firstOf}
 use Rattle.adjacency.specs.Checks.{badCount}
-use Rattle.grid.specs.Grid.{Grid}
 use Rattle.layout.specs.Sheet.{Sheet}
-use Rattle.layout.specs.Tables.{tableOf, joined}
+use Rattle.layout.specs.Tables.{tableOf}
 use Rattle.layout.specs.Reading.{fromLists, wellFormed, sheetIn}
 use Rattle.layout.specs.Lending.{Lent, lent, filled}
 use Rattle.sheet.specs.declared.Measures.{Measures}
@@ -26,7 +25,7 @@ use Rattle.bounded.specs.Laid.{sheetRefusal, Reads}
 use Rattle.records.proofs.LayingLaws.{over-whole}
 use Rattle.refusals.proofs.RefusalLaws.{number-positive, first-here, first-next, first-passed}
 use Rattle.layout.proofs.ShapeLaws.{Formed, formed}
-use Rattle.layout.proofs.ReadingLaws.{count-is, ids-is}
+use Rattle.layout.proofs.ReadingLaws.{ids-is}
 use Rattle.sheet.proofs.MeasureLaws.{Known, known, Parts, read-parts}
 use Rattle.sheet.proofs.CalledLaws.{sizes-refused, sizes-told, sheet-scalar, scalarTests-is, readMisfit-is}
 use Rattle.sheet.proofs.RoundLaws.{sheet-passed}
@@ -45,7 +44,7 @@ within d (refused n) = d
 
 module _ (b : List ℕ) where
   -- the tests of what a sheet says
-  abbrev said : List Test
+  abbrev pub said : List Test
   said = sheetTests false (tableOf (sheetIn b)) (sheetIn b .weights) (sheetIn b .grid) (sheetIn b .forbids)
 
   -- bytes that are no sheet are refused first
@@ -54,7 +53,7 @@ module _ (b : List ℕ) where
   refusal-form e = first-here (formTest b) said (ap not e)
 
   -- of those that are one, the refusals are of what it says
-  refusal-next : wellFormed b ≡ true
+  pub refusal-next : wellFormed b ≡ true
       → sheetRefusal b ≡ firstOf said
   unfolding sheetRefusal
   refusal-next e = first-next (formTest b) said (ap not e)

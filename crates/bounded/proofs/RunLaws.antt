@@ -1,25 +1,23 @@
 -- Laws of the run of a sheet that was read: lent so, `sheet::run_result` refuses nothing but the noise, and leaves the run's own outcome.
 -- Assumes nothing.
 use mathlib.Core.Bool.{Bool, true, false, not, cond, _||_}
-use mathlib.Core.List.{List, _∷_, _++_}
+use mathlib.Core.List.{List, _++_}
 use mathlib.Core.Path.{_≡_, refl, sym, ap, _∙_}
-use Prim.Native.Nat.{ℕ, zero, suc, _+_, _*_, _≤_}
+use Prim.Native.Nat.{ℕ, _+_, _*_, _≤_}
 use native.Mathlib.Omega.{arith}
 use lib.Dec.{eqb}
 use lib.Ieee.{Float}
 use lib.ListN.{length, take, drop, length-append, take-append-drop}
 use lib.Seq.{length-take-le}
-use borrow.Author.Tests.{le-ltb, eq-eqb, ne-eqb, eqb-true}
+use borrow.Author.Tests.{le-ltb, eq-eqb}
 use Rattle.records.specs.Numbers.{u16, u64s}
 use Rattle.records.specs.Laying.{over}
-use Rattle.refusals.specs.Refusals.{firstOf, Asked}
+use Rattle.refusals.specs.Refusals.{Asked}
 use Rattle.adjacency.specs.Tables.{Table}
 use Rattle.adjacency.specs.Checks.{weightsMisfit}
 use Rattle.grid.specs.Grid.{Grid, cells}
 use Rattle.run.specs.Run.{Given, Ended, runOf}
 use Rattle.run.specs.Called.{Memory, memory, Measured, roomOf, badMemory, badLengths, forbidsOf, recordsIn, End, finished, cleared}
-use Rattle.run.specs.Called as call
-use Rattle.sheet.specs.Called.{sheetTests}
 use Rattle.sheet.specs.Result.{resultOf, short, resultTests, ResultOutcome, resultOutcome, resultAt, resultCalled}
 use Rattle.bounded.specs.Laid.{Told, refused, answer, Finish, finish, runTold, ranOf, Outcome, outcome, laidAt, Runnable}
 use Rattle.records.proofs.NumberLaws.{length-u16, length-u64s}
@@ -28,6 +26,7 @@ use Rattle.sheet.proofs.ResultLaws.{room-there}
 use Rattle.sheet.proofs.CalledLaws.{sheet-length, sheet-content}
 use Rattle.sheet.proofs.StorableLaws.{scalars-good}
 use Rattle.adjacency.proofs.AcceptedLaws.{long-good}
+use Rattle.run.specs.Called as call
 
 -- a result is 10 bytes, and 8 for each cell
 pub length-resultOf : (e : Ended) → length (resultOf e) ≡ 10 + 8 * length (e .domains)

@@ -1,6 +1,6 @@
 -- Laws of what a sheet and a case come to: each end of `measure` and `lay`, in the order of docs/RULES.md, "Programs".
 -- Assumes nothing.
-use mathlib.Core.Bool.{Bool, true, false, cond}
+use mathlib.Core.Bool.{cond}
 use mathlib.Core.List.{List}
 use mathlib.Core.Path.{_≡_, refl, sym, ap, _∙_}
 use Prim.Native.Nat.{ℕ, zero, suc, _+_, _*_, _%_, _≤_, _<_}
@@ -11,22 +11,22 @@ use borrow.Author.Tests.{lt-ltb, le-ltb, eq-eqb}
 use Rattle.refusals.specs.declared.Refusal.{Refusal}
 use Rattle.refusals.specs.Refusals.{number, firstOf, Asked}
 use Rattle.adjacency.specs.Tables.{table}
-use Rattle.grid.specs.Grid.{Grid, grid, Sized}
-use Rattle.run.specs.Run.{Given, given, Ended}
+use Rattle.grid.specs.Grid.{grid, Sized}
+use Rattle.run.specs.Run.{given}
 use Rattle.run.specs.Called.{recordsIn, End}
 use Rattle.layout.specs.Sheet.{Sheet}
 use Rattle.layout.specs.Tables.{tableOf}
 use Rattle.layout.specs.Reading.{sheetIn}
 use Rattle.sheet.specs.declared.Measures.{Measures}
 use Rattle.sheet.specs.Called.{measured}
-use Rattle.bounded.specs.Laid.{Told, tooLong, tooLarge, refused, answer, onward, sheetRefusal, large, takenAt, takenOf, groundOf, measureOf, ranOf, laidOf, takenTold, laidTold, runTold, outcome, laidAt, Runnable}
-use Rattle.bounded.specs.declared.inner.Taken.the-variants as taken
-use Rattle.bounded.specs.declared.inner.Laid.the-variants as laid
+use Rattle.bounded.specs.Laid.{tooLong, tooLarge, refused, answer, onward, sheetRefusal, large, takenAt, takenOf, groundOf, measureOf, ranOf, laidOf, takenTold, laidTold, runTold, outcome, laidAt, Runnable}
 use Rattle.refusals.proofs.RefusalLaws.{number-positive}
 use Rattle.adjacency.proofs.AcceptedLaws.{counted}
 use Rattle.sheet.proofs.MeasureLaws.{scalars-is, judged-is}
 use Rattle.sheet.proofs.StorableLaws.{scalars-good}
 use Rattle.bounded.proofs.ReadLaws.{Stored}
+use Rattle.bounded.specs.declared.inner.Taken.the-variants as taken
+use Rattle.bounded.specs.declared.inner.Laid.the-variants as laid
 
 -- ---- the sheet
 
@@ -36,7 +36,7 @@ module _ (b : List ℕ) where
   taken-long h = rw (lt-ltb 41376 (length b) h)
 
   module _ (short : length b ≤ 41376) where
-    taken-short : takenOf b ≡ takenAt (sheetRefusal b) (sheetIn b)
+    pub taken-short : takenOf b ≡ takenAt (sheetRefusal b) (sheetIn b)
     unfolding takenOf
     taken-short = rw (le-ltb 41376 (length b) short)
 
