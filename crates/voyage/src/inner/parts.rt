@@ -1,7 +1,7 @@
 // The first entries of what was read or filled.
 
 // The first n bytes, or all of them where there are fewer.
-pub fn bytes_of<'a>(bytes: &'a [u8], n: usize) -> &'a [u8] {
+pub(crate) fn bytes_of<'a>(bytes: &'a [u8], n: usize) -> &'a [u8] {
     if n <= bytes.len() {
         return &bytes[..n];
     }
@@ -9,7 +9,7 @@ pub fn bytes_of<'a>(bytes: &'a [u8], n: usize) -> &'a [u8] {
 }
 
 // The first n words.
-pub fn words_of<'a>(words: &'a [u32], n: usize) -> &'a [u32] {
+pub(crate) fn words_of<'a>(words: &'a [u32], n: usize) -> &'a [u32] {
     if n <= words.len() {
         return &words[..n];
     }
@@ -17,7 +17,7 @@ pub fn words_of<'a>(words: &'a [u32], n: usize) -> &'a [u32] {
 }
 
 // The first n domains.
-pub fn domains_of<'a>(domains: &'a [u64], n: usize) -> &'a [u64] {
+pub(crate) fn domains_of<'a>(domains: &'a [u64], n: usize) -> &'a [u64] {
     if n <= domains.len() {
         return &domains[..n];
     }
@@ -25,7 +25,7 @@ pub fn domains_of<'a>(domains: &'a [u64], n: usize) -> &'a [u64] {
 }
 
 // Fills the first n words from a seed, and answers the state after them.
-pub fn fill(state: u32, n: usize, out: &mut [u32]) -> u32 {
+pub(crate) fn fill(state: u32, n: usize, out: &mut [u32]) -> u32 {
     if n <= out.len() {
         return seed::fill(state, &mut out[..n]);
     }

@@ -1,9 +1,9 @@
--- `ocean::show::picture_rows` meets its contract: it ends, since the rows are counted. Nothing has to hold from turn to turn.
+-- `voyage::inner::show::picture_rows` meets its contract: it ends, since the rows are counted. Nothing has to hold from turn to turn.
 -- Assumes nothing.
 use native.Mathlib.Omega.{arith}
 use Prim.Native.Nat.{_-_}
-use Rattle.ocean.proofs.show.picture_rows.Statement.{statement}
-use Rattle.ocean.proofs.show.picture_rows.Tie as tie
+use Rattle.voyage.proofs.inner.show.picture_rows.Statement.{statement}
+use Rattle.voyage.proofs.inner.show.picture_rows.Tie as tie
 
 abbrev Inv-loop : tie.InvT-loop
 Inv-loop fd named domains width height y₀ y =

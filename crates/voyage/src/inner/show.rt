@@ -1,47 +1,54 @@
 // What the person is shown: a chart, a picture, or one sentence.
-use crate::files;
-use crate::parts::domains_of;
+use crate::inner::files;
+use crate::inner::parts::domains_of;
 use bounded::inner::Ground;
 use bounded::inner::Laid;
 use command::arguments::Plan;
-use libc::STDERR_FILENO;
 use libc::STDOUT_FILENO;
 
 // Why a sheet was refused.
-pub fn refused(number: usize) {
+pub(crate) fn refused(told: i32, number: usize) {
     let mut page = io::buffer();
     let n = command::put_refusal(number, 0, &mut page);
-    files::write(STDERR_FILENO, &page, n);
+    files::write(told, &page, n);
 }
 
 // What is wrong with the arguments.
-pub fn fault(number: usize) {
+pub(crate) fn fault(told: i32, number: usize) {
     let mut page = io::buffer();
     let n = command::put_fault(number, 0, &mut page);
-    files::write(STDERR_FILENO, &page, n);
+    files::write(told, &page, n);
 }
 
 // A sheet that only the library takes.
-pub fn too_large() {
+pub(crate) fn too_large(told: i32) {
     io::write_all(
-        STDERR_FILENO,
+        told,
         b"ocean: this program takes up to 4,096 cells times patterns, and the sheet has more\n",
     );
 }
 
 // A sheet that is longer than any that is accepted.
-pub fn too_long() {
+pub(crate) fn too_long(told: i32) {
     io::write_all(
-        STDERR_FILENO,
+        told,
         b"ocean: the sheet is longer than 41,376 bytes, and no sheet that is accepted is\n",
     );
 }
 
 // A file of noise or words that ends within a word.
-pub fn not_whole() {
+pub(crate) fn not_whole(told: i32) {
     io::write_all(
-        STDERR_FILENO,
+        told,
         b"ocean: noise and words are files of 32-bit words, and this one ends within a word\n",
+    );
+}
+
+// A file that is to be written has the name of another one of the command.
+pub(crate) fn clash(told: i32) {
+    io::write_all(
+        told,
+        b"ocean: RESULT and the picture want names of their own: one of them is the name of another file here\n",
     );
 }
 
@@ -82,13 +89,14 @@ fn picture_rows(fd: i32, ground: Ground, named: bool, domains: &[u64]) {
 // The picture, in the file that an argument names; whether that could be opened.
 fn picture(
     index: usize,
+    told: i32,
     named: bool,
     ground: Ground,
     end: usize,
     words: usize,
     domains: &[u64],
 ) -> bool {
-    let fd = files::start(index);
+    let fd = files::start(index, told);
     if fd < 0 {
         return false;
     }
@@ -119,8 +127,8 @@ fn picture(
 }
 
 // The result, in the file that an argument names; whether that could be opened.
-fn result(index: usize, bytes: &[u8], n: usize) -> bool {
-    let fd = files::start(index);
+fn result(index: usize, told: i32, bytes: &[u8], n: usize) -> bool {
+    let fd = files::start(index, told);
     if fd < 0 {
         return false;
     }
@@ -129,21 +137,10 @@ fn result(index: usize, bytes: &[u8], n: usize) -> bool {
     true
 }
 
-// The argument that names where the result goes, 0 for none.
-fn result_name(plan: Plan) -> usize {
-    let names = plan.files;
-    if plan.count == 4 {
-        return names[3];
-    }
-    if plan.seeded && plan.count == 2 {
-        return names[1];
-    }
-    0
-}
-
 // What a run left: the result where it is asked for, the picture, and the chart, which is shown only if the files could be opened.
 fn laid(
     plan: Plan,
+    told: i32,
     named: bool,
     ground: Ground,
     end: usize,
@@ -152,14 +149,14 @@ fn laid(
     bytes: &[u8],
     length: usize,
 ) {
-    let name = result_name(plan);
+    let name = files::result_name(plan);
     if name != 0 {
-        if !result(name, bytes, length) {
+        if !result(name, told, bytes, length) {
             return;
         }
     }
     if plan.svg != 0 {
-        if !picture(plan.svg, named, ground, end, words, domains) {
+        if !picture(plan.svg, told, named, ground, end, words, domains) {
             return;
         }
     }
@@ -167,14 +164,25 @@ fn laid(
 }
 
 // Lays the ocean and shows it, or says why not.
-pub fn run(plan: Plan, named: bool, sheet: &[u8], ground: Ground, noise: &[u32], words: &[u32]) {
+pub(crate) fn run(
+    plan: Plan,
+    told: i32,
+    named: bool,
+    sheet: &[u8],
+    ground: Ground,
+    noise: &[u32],
+    words: &[u32],
+) {
     let cells = ground.cells;
     let mut domains = [0u64; 1024];
-    let mut bytes = [0u8; 8206];
+    let mut bytes = [0u8; 8202];
     match bounded::inner::lay(sheet, noise, words, &mut domains, &mut bytes) {
-        Laid::Refused(number) => refused(number as usize),
+        Laid::Refused(number) => refused(told, number as usize),
+        Laid::TooLarge => too_large(told),
+        Laid::TooLong => too_long(told),
         Laid::Ended(end, used, length) => laid(
             plan,
+            told,
             named,
             ground,
             end as usize,

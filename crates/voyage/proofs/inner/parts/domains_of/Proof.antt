@@ -1,10 +1,10 @@
--- `ocean::parts::domains_of` meets its contract: what is taken is as long as asked.
+-- `voyage::inner::parts::domains_of` meets its contract: what is taken is as long as asked.
 -- Assumes nothing.
 use borrow.Author.Needs.{needs}
 use mathlib.Core.Path.{sym}
 use lib.Seq.{length-take-le}
-use Rattle.ocean.proofs.parts.domains_of.Statement.{statement}
-use Rattle.ocean.proofs.parts.domains_of.Tie as tie
+use Rattle.voyage.proofs.inner.parts.domains_of.Statement.{statement}
+use Rattle.voyage.proofs.inner.parts.domains_of.Tie as tie
 
 slice-aggregate-result : tie.Need-slice-aggregate-result
 slice-aggregate-result c = sym (length-take-le _ _ (c .before .if1 .taken))

@@ -1,10 +1,10 @@
--- `ocean::parts::fill` meets its contract: what is taken is as long as asked.
+-- `voyage::inner::parts::fill` meets its contract: what is taken is as long as asked.
 -- Assumes nothing.
 use borrow.Author.Needs.{needs}
 use mathlib.Core.Path.{sym}
 use lib.Seq.{length-take-le}
-use Rattle.ocean.proofs.parts.fill.Statement.{statement}
-use Rattle.ocean.proofs.parts.fill.Tie as tie
+use Rattle.voyage.proofs.inner.parts.fill.Statement.{statement}
+use Rattle.voyage.proofs.inner.parts.fill.Tie as tie
 
 slice-relend-prefix-fill : tie.Need-slice-relend-prefix-fill
 slice-relend-prefix-fill c = search needs
