@@ -128,7 +128,10 @@ pub(crate) struct Told {
 /// The answer, or the refusal.
 pub(crate) fn accepted(answer: u64) -> Result<Told, Refusal> {
     match answer & 255 {
-        0 => Ok(Told { case: (answer >> 8 & 0xff_ffff) as u32, value: (answer >> 32) as u32 }),
+        0 => Ok(Told {
+            case: (answer >> 8 & 0xff_ffff) as u32,
+            value: (answer >> 32) as u32,
+        }),
         number => Err(Refusal::named(number)),
     }
 }
@@ -153,6 +156,9 @@ impl Told {
             2 => End::Paused,
             _ => End::Contradiction,
         };
-        Ended { end, used: self.value as usize }
+        Ended {
+            end,
+            used: self.value as usize,
+        }
     }
 }

@@ -43,7 +43,11 @@ pub const fn marks(cells: usize) -> usize {
 
 /// The bytes that a written sheet needs at least.
 pub const fn sheet(count: usize, ids: usize, forbids: usize) -> usize {
-    count.wrapping_add(forbids).wrapping_mul(6).wrapping_add(ids).wrapping_add(32)
+    count
+        .wrapping_add(forbids)
+        .wrapping_mul(6)
+        .wrapping_add(ids)
+        .wrapping_add(32)
 }
 
 /// The bytes of a result.

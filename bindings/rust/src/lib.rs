@@ -122,7 +122,11 @@ impl<'a> Table<'a> {
         }
     }
     fn alone(self) -> Given<'a> {
-        self.on(Grid { width: 0, height: 0, mode: 0 })
+        self.on(Grid {
+            width: 0,
+            height: 0,
+            mode: 0,
+        })
     }
 }
 
@@ -175,27 +179,62 @@ pub fn choice_of(count: usize, weights: &[u32], domain: u64, word: u32) -> Resul
 
 /// Propagates starting domains to the greatest consistent subset of them; where that has an empty cell it is a contradiction, and every domain
 /// is 0. `counts` and `pending` are work memory. The table's weights do not matter. Refusals, in order: 3 1 2 5 6 7 9.
-pub fn propagate(table: Table, grid: Grid, domains: &mut [u64], counts: &mut [u8], pending: &mut [u32]) -> Result<Propagated, Refusal> {
+pub fn propagate(
+    table: Table,
+    grid: Grid,
+    domains: &mut [u64],
+    counts: &mut [u8],
+    pending: &mut [u32],
+) -> Result<Propagated, Refusal> {
     let told = answers::accepted(sys::propagate(table.on(grid), domains, counts, pending))?;
     Ok(told.propagated())
 }
 
 /// A run: the forbids are laid in order, then a cell is observed and a word chooses a pattern there, until the run ends. `noise` has a word for
 /// each cell, which breaks ties. Refusals, in order: 3 1 2 5 4 6 7, then the forbids one by one, 8 before 9 in each.
-pub fn run(forbids: &[Forbid], table: Table, grid: Grid, noise: &[u32], words: &[u32], memory: Memory) -> Result<Ended, Refusal> {
+pub fn run(
+    forbids: &[Forbid],
+    table: Table,
+    grid: Grid,
+    noise: &[u32],
+    words: &[u32],
+    memory: Memory,
+) -> Result<Ended, Refusal> {
     run_numbers(sys::numbers(forbids), table, grid, noise, words, memory)
 }
 
 /// The same with the forbids as numbers, three for each; another number of them is [`Refusal::BadLength`].
-pub fn run_numbers(forbids: &[u32], table: Table, grid: Grid, noise: &[u32], words: &[u32], memory: Memory) -> Result<Ended, Refusal> {
+pub fn run_numbers(
+    forbids: &[u32],
+    table: Table,
+    grid: Grid,
+    noise: &[u32],
+    words: &[u32],
+    memory: Memory,
+) -> Result<Ended, Refusal> {
     let told = answers::accepted(sys::run(forbids, table.on(grid), noise, words, memory.written()))?;
     Ok(told.ended())
 }
 
 /// A run whose result is written, too: a record of [`lengths::result`] bytes at the front of `out`; what stands past it stays. An `out` that is
 /// shorter is [`Refusal::BadLength`], in its turn. No other call writes a result.
-pub fn run_result(forbids: &[Forbid], table: Table, grid: Grid, noise: &[u32], words: &[u32], memory: Memory, out: &mut [u8]) -> Result<Ended, Refusal> {
-    let told = answers::accepted(sys::run_result(sys::numbers(forbids), table.on(grid), noise, words, memory.written(), out))?;
+pub fn run_result(
+    forbids: &[Forbid],
+    table: Table,
+    grid: Grid,
+    noise: &[u32],
+    words: &[u32],
+    memory: Memory,
+    out: &mut [u8],
+) -> Result<Ended, Refusal> {
+    let told = answers::accepted(sys::run_result(
+        sys::numbers(forbids),
+        table.on(grid),
+        noise,
+        words,
+        memory.written(),
+        out,
+    ))?;
     Ok(told.ended())
 }
 
@@ -204,12 +243,23 @@ pub fn sizes(sheet: &[u8]) -> Result<Sizes, Refusal> {
     let mut measures = [0; lengths::MEASURES];
     answers::accepted(sys::sizes(sheet, &mut measures))?;
     let [count, ids, width, height, mode, forbids] = measures;
-    Ok(Sizes { count, ids, grid: Grid { width, height, mode }, forbids })
+    Ok(Sizes {
+        count,
+        ids,
+        grid: Grid { width, height, mode },
+        forbids,
+    })
 }
 
 /// Reads a sheet into lent slices: `weights` and `offsets` have exactly their lengths, `ids` and `forbids` may be longer, and what stands past
 /// the last stays. Refusals, in order: 10 3 1 2 5 4 6 7, then the forbids one by one, 8 before 9 in each.
-pub fn read(sheet: &[u8], weights: &mut [u32], offsets: &mut [u32], ids: &mut [u8], forbids: &mut [Forbid]) -> Result<Sizes, Refusal> {
+pub fn read(
+    sheet: &[u8],
+    weights: &mut [u32],
+    offsets: &mut [u32],
+    ids: &mut [u8],
+    forbids: &mut [Forbid],
+) -> Result<Sizes, Refusal> {
     answers::accepted(sys::read(sheet, weights, offsets, ids, sys::numbers_mut(forbids)))?;
     sizes(sheet)
 }

@@ -3,7 +3,9 @@
 mod common;
 
 use common::{cases, Room};
-use murghidossu::{choice_of, entropy_of, lengths, list, list_refusal, propagate, read, run, run_result, sizes, write, Forbid, Refusal};
+use murghidossu::{
+    choice_of, entropy_of, lengths, list, list_refusal, propagate, read, run, run_result, sizes, write, Forbid, Refusal,
+};
 
 fn number<T>(told: &Result<T, Refusal>) -> usize {
     told.as_ref().err().map_or(0, |r| r.number() as usize)
@@ -16,7 +18,15 @@ fn recorded(file: &str, many: usize) {
     for case in cases {
         let lent = case.lent();
         let mut room = lent.room();
-        let ended = run(&lent.forbids, lent.table(), lent.grid, &lent.noise, &lent.words, room.lend()).expect(&case.name);
+        let ended = run(
+            &lent.forbids,
+            lent.table(),
+            lent.grid,
+            &lent.noise,
+            &lent.words,
+            room.lend(),
+        )
+        .expect(&case.name);
         let (end, domains) = (case.numbers("end"), case.numbers("domains"));
         assert_eq!([ended.end as u64, ended.used as u64], end[..], "{}", case.name);
         assert_eq!(room.domains, domains, "{}", case.name);
@@ -50,23 +60,59 @@ fn sheets() {
 
         let mut out = vec![0xa5; sheet.len() + 7];
         let bytes = write(lent.table(), lent.grid, &lent.forbids, &mut out).expect(name);
-        assert_eq!(bytes, lengths::sheet(lent.count, lent.ids.len(), lent.forbids.len()), "{name}");
+        assert_eq!(
+            bytes,
+            lengths::sheet(lent.count, lent.ids.len(), lent.forbids.len()),
+            "{name}"
+        );
         assert_eq!((&out[..bytes], &out[bytes..]), (&sheet[..], &[0xa5; 7][..]), "{name}");
 
         let told = sizes(&sheet).expect(name);
-        assert_eq!((told.count, told.ids, told.grid, told.forbids), (lent.count, lent.ids.len(), lent.grid, lent.forbids.len()), "{name}");
-        let old = Forbid { cell: 9, pattern: 9, keep: 9 };
+        assert_eq!(
+            (told.count, told.ids, told.grid, told.forbids),
+            (lent.count, lent.ids.len(), lent.grid, lent.forbids.len()),
+            "{name}"
+        );
+        let old = Forbid {
+            cell: 9,
+            pattern: 9,
+            keep: 9,
+        };
         let (mut weights, mut offsets) = (vec![0; told.count], vec![0; lengths::offsets(told.count)]);
         let (mut ids, mut forbids) = (vec![0xa5; told.ids + 2], vec![old; told.forbids + 1]);
-        assert_eq!(read(&sheet, &mut weights, &mut offsets, &mut ids, &mut forbids), Ok(told), "{name}");
+        assert_eq!(
+            read(&sheet, &mut weights, &mut offsets, &mut ids, &mut forbids),
+            Ok(told),
+            "{name}"
+        );
         assert_eq!((&weights, &offsets), (&lent.weights, &lent.offsets), "{name}");
-        assert_eq!((&ids[..told.ids], &ids[told.ids..]), (&lent.ids[..], &[0xa5; 2][..]), "{name}");
-        let stored = lent.forbids.iter().map(|f| Forbid { keep: (f.keep != 0) as u32, ..*f });
+        assert_eq!(
+            (&ids[..told.ids], &ids[told.ids..]),
+            (&lent.ids[..], &[0xa5; 2][..]),
+            "{name}"
+        );
+        let stored = lent.forbids.iter().map(|f| Forbid {
+            keep: (f.keep != 0) as u32,
+            ..*f
+        });
         assert_eq!(forbids, stored.chain([old]).collect::<Vec<_>>(), "{name}");
 
         let (mut room, mut out) = (lent.room(), vec![0xa5; result.len() + 3]);
-        run_result(&lent.forbids, lent.table(), lent.grid, &lent.noise, &lent.words, room.lend(), &mut out).expect(name);
-        assert_eq!((&out[..result.len()], &out[result.len()..]), (&result[..], &[0xa5; 3][..]), "{name}");
+        run_result(
+            &lent.forbids,
+            lent.table(),
+            lent.grid,
+            &lent.noise,
+            &lent.words,
+            room.lend(),
+            &mut out,
+        )
+        .expect(name);
+        assert_eq!(
+            (&out[..result.len()], &out[result.len()..]),
+            (&result[..], &[0xa5; 3][..]),
+            "{name}"
+        );
         assert_eq!(result.len(), lengths::result(lent.cells()), "{name}");
     }
 }
@@ -87,14 +133,27 @@ fn refusals() {
         let before = room.clone();
         match case.text("call") {
             "run" => {
-                let told = run(&lent.forbids, lent.table(), lent.grid, &lent.noise, &lent.words, room.lend());
+                let told = run(
+                    &lent.forbids,
+                    lent.table(),
+                    lent.grid,
+                    &lent.noise,
+                    &lent.words,
+                    room.lend(),
+                );
                 assert_eq!(number(&told), wanted, "{name}");
                 assert!(told.is_ok() || room == before, "{name}");
             }
             "propagate" => {
                 room.domains = case.numbers("domains");
                 let before = room.clone();
-                let told = propagate(lent.table(), lent.grid, &mut room.domains, &mut room.counts, &mut room.pending);
+                let told = propagate(
+                    lent.table(),
+                    lent.grid,
+                    &mut room.domains,
+                    &mut room.counts,
+                    &mut room.pending,
+                );
                 assert_eq!(number(&told), wanted, "{name}");
                 assert!(told.is_ok() || room == before, "{name}");
             }
@@ -102,7 +161,11 @@ fn refusals() {
                 let (pattern, direction) = (case.numbers("ask")[0] as usize, case.numbers("ask")[1] as usize);
                 let told = list(lent.table(), pattern, direction);
                 assert_eq!(number(&told), wanted, "{name}");
-                assert_eq!(number(&list_refusal(lent.table(), pattern, direction)), wanted, "{name}");
+                assert_eq!(
+                    number(&list_refusal(lent.table(), pattern, direction)),
+                    wanted,
+                    "{name}"
+                );
                 let part: Vec<u64> = told.unwrap_or(&[]).iter().map(|&id| id as u64).collect();
                 assert_eq!(part, case.numbers("part"), "{name}");
             }
@@ -122,7 +185,10 @@ fn refusals() {
                 let told = read(&sheet, &mut weights, &mut offsets, &mut ids, &mut forbids);
                 assert_eq!(number(&told), wanted, "{name}");
                 let same = weights.iter().chain(&offsets).all(|&x| x == 7) && ids.iter().all(|&x| x == 7);
-                assert!(told.is_ok() || (same && forbids.iter().all(|&f| f == Forbid::default())), "{name}");
+                assert!(
+                    told.is_ok() || (same && forbids.iter().all(|&f| f == Forbid::default())),
+                    "{name}"
+                );
             }
         }
         came[wanted] += 1;
@@ -134,11 +200,22 @@ fn refusals() {
 #[test]
 fn first_choices() {
     let mut compared = 0;
-    for case in cases("runs.txt").iter().filter(|c| c.has("choice") && c.lent().forbids.is_empty()) {
+    for case in cases("runs.txt")
+        .iter()
+        .filter(|c| c.has("choice") && c.lent().forbids.is_empty())
+    {
         let lent = case.lent();
-        let full = if lent.count == 64 { u64::MAX } else { (1 << lent.count) - 1 };
-        let entropy = entropy_of(lent.count, &lent.weights, full).expect(&case.name).expect("weights");
-        let pattern = choice_of(lent.count, &lent.weights, full, lent.words[0]).expect(&case.name).expect("weights");
+        let full = if lent.count == 64 {
+            u64::MAX
+        } else {
+            (1 << lent.count) - 1
+        };
+        let entropy = entropy_of(lent.count, &lent.weights, full)
+            .expect(&case.name)
+            .expect("weights");
+        let pattern = choice_of(lent.count, &lent.weights, full, lent.words[0])
+            .expect(&case.name)
+            .expect("weights");
         assert!(entropy.is_finite() && lent.weights[pattern] > 0, "{}", case.name);
         // the lines of a case are kept by their first word, so this is its last choice: it is the first where there is one
         if case.numbers("end")[1] == 1 {

@@ -22,8 +22,26 @@ const LENGTH: fn(&mut Lent) = |l| l.offsets.truncate(8);
 const WRAP: fn(&mut Lent) = |l| l.grid.mode = 4;
 const SIZE: fn(&mut Lent) = |l| l.grid.width = 65;
 const COUNT: fn(&mut Lent) = |l| l.count = 0;
-const CELL: fn(&mut Lent) = |l| l.forbids.insert(0, Forbid { cell: 2, pattern: 2, keep: 0 });
-const PATTERN: fn(&mut Lent) = |l| l.forbids.insert(0, Forbid { cell: 1, pattern: 2, keep: 0 });
+const CELL: fn(&mut Lent) = |l| {
+    l.forbids.insert(
+        0,
+        Forbid {
+            cell: 2,
+            pattern: 2,
+            keep: 0,
+        },
+    )
+};
+const PATTERN: fn(&mut Lent) = |l| {
+    l.forbids.insert(
+        0,
+        Forbid {
+            cell: 1,
+            pattern: 2,
+            keep: 0,
+        },
+    )
+};
 
 #[test]
 fn check_table_refuses() {
@@ -83,7 +101,10 @@ fn entropy_and_choice_refuse() {
     assert_eq!(entropy_of(2, &[2, 0], 2), Ok(None));
     assert_eq!(entropy_of(2, &[1, 1], 3), Ok(Some(1.0)));
     assert_eq!(choice_of(2, &[2, 0], 2, 7), Ok(None));
-    let chosen: Vec<_> = [1, 2, 4, 5].iter().map(|&word| choice_of(2, &[2, 3], 3, word)).collect();
+    let chosen: Vec<_> = [1, 2, 4, 5]
+        .iter()
+        .map(|&word| choice_of(2, &[2, 3], 3, word))
+        .collect();
     assert_eq!(chosen, [Ok(Some(0)), Ok(Some(1)), Ok(Some(1)), Ok(Some(0))]);
 }
 
@@ -94,7 +115,13 @@ fn propagate_refuses() {
         let mut room = lent.room();
         room.domains = domains.to_vec();
         let before = room.clone();
-        let told = propagate(lent.table(), lent.grid, &mut room.domains, &mut room.counts, &mut room.pending);
+        let told = propagate(
+            lent.table(),
+            lent.grid,
+            &mut room.domains,
+            &mut room.counts,
+            &mut room.pending,
+        );
         assert!(told.is_ok() || room == before);
         (told, room.domains)
     };
@@ -106,10 +133,15 @@ fn propagate_refuses() {
     assert_eq!(told(&[DISAGREE, LIST, LENGTH], [1, 4]).0, Err(BadLength));
     assert_eq!(told(&[DISAGREE, LIST, LENGTH, WRAP], [1, 4]).0, Err(BadWrap));
     assert_eq!(told(&[DISAGREE, LIST, LENGTH, WRAP, SIZE], [1, 4]).0, Err(BadSize));
-    assert_eq!(told(&[DISAGREE, LIST, LENGTH, WRAP, SIZE, COUNT], [1, 4]).0, Err(BadCount));
+    assert_eq!(
+        told(&[DISAGREE, LIST, LENGTH, WRAP, SIZE, COUNT], [1, 4]).0,
+        Err(BadCount)
+    );
 }
 
-const IN_ORDER: [(Refusal, &[fn(&mut Lent)]); 9] = [
+type Faulty = (Refusal, &'static [fn(&mut Lent)]);
+
+const IN_ORDER: [Faulty; 9] = [
     (BadPattern, &[CELL, PATTERN]),
     (BadCell, &[PATTERN, CELL]),
     (Disagree, &[PATTERN, CELL, DISAGREE]),
@@ -118,7 +150,10 @@ const IN_ORDER: [(Refusal, &[fn(&mut Lent)]); 9] = [
     (BadLength, &[PATTERN, CELL, DISAGREE, LIST, WEIGHTS, LENGTH]),
     (BadWrap, &[PATTERN, CELL, DISAGREE, LIST, WEIGHTS, LENGTH, WRAP]),
     (BadSize, &[PATTERN, CELL, DISAGREE, LIST, WEIGHTS, LENGTH, WRAP, SIZE]),
-    (BadCount, &[PATTERN, CELL, DISAGREE, LIST, WEIGHTS, LENGTH, WRAP, SIZE, COUNT]),
+    (
+        BadCount,
+        &[PATTERN, CELL, DISAGREE, LIST, WEIGHTS, LENGTH, WRAP, SIZE, COUNT],
+    ),
 ];
 
 #[test]
@@ -128,8 +163,26 @@ fn runs_and_write_refuse() {
         let mut room = lent.room();
         let before = room.clone();
         let mut out = vec![0xa5; 2000];
-        assert_eq!(run(&lent.forbids, lent.table(), lent.grid, &lent.noise, &lent.words, room.lend()), Err(wanted));
-        let with_result = run_result(&lent.forbids, lent.table(), lent.grid, &lent.noise, &lent.words, room.lend(), &mut out);
+        assert_eq!(
+            run(
+                &lent.forbids,
+                lent.table(),
+                lent.grid,
+                &lent.noise,
+                &lent.words,
+                room.lend()
+            ),
+            Err(wanted)
+        );
+        let with_result = run_result(
+            &lent.forbids,
+            lent.table(),
+            lent.grid,
+            &lent.noise,
+            &lent.words,
+            room.lend(),
+            &mut out,
+        );
         assert_eq!(with_result, Err(wanted));
         assert_eq!(write(lent.table(), lent.grid, &lent.forbids, &mut out), Err(wanted));
         assert!(room == before && out.iter().all(|&b| b == 0xa5));
@@ -142,7 +195,10 @@ fn runs_refuse_each_length() {
     let changed: [fn(&mut Lent); 3] = [|l| l.weights.push(0), |l| l.offsets.push(8), |l| l.noise.push(0)];
     for change in changed {
         let lent = with(&[change]);
-        assert_eq!(run(&[], lent.table(), lent.grid, &lent.noise, &[], checker().room().lend()), Err(BadLength));
+        assert_eq!(
+            run(&[], lent.table(), lent.grid, &lent.noise, &[], checker().room().lend()),
+            Err(BadLength)
+        );
     }
     let lent = checker();
     for k in 0..10 {
@@ -160,14 +216,35 @@ fn runs_refuse_each_length() {
             _ => drop(room.marks.pop()),
         }
         let before = room.clone();
-        assert_eq!(run(&[], lent.table(), lent.grid, &lent.noise, &[], room.lend()), Err(BadLength), "{k}");
+        assert_eq!(
+            run(&[], lent.table(), lent.grid, &lent.noise, &[], room.lend()),
+            Err(BadLength),
+            "{k}"
+        );
         assert!(room == before, "{k}");
     }
-    assert_eq!(run_numbers(&[0, 0], lent.table(), lent.grid, &lent.noise, &[], lent.room().lend()), Err(BadLength));
+    assert_eq!(
+        run_numbers(&[0, 0], lent.table(), lent.grid, &lent.noise, &[], lent.room().lend()),
+        Err(BadLength)
+    );
     let many = vec![Forbid::default(); 4097];
-    assert_eq!(run(&many, lent.table(), lent.grid, &lent.noise, &[], lent.room().lend()), Err(BadLength));
+    assert_eq!(
+        run(&many, lent.table(), lent.grid, &lent.noise, &[], lent.room().lend()),
+        Err(BadLength)
+    );
     let mut out = [0; 25];
-    assert_eq!(run_result(&[], lent.table(), lent.grid, &lent.noise, &[], lent.room().lend(), &mut out), Err(BadLength));
+    assert_eq!(
+        run_result(
+            &[],
+            lent.table(),
+            lent.grid,
+            &lent.noise,
+            &[],
+            lent.room().lend(),
+            &mut out
+        ),
+        Err(BadLength)
+    );
 }
 
 #[test]
@@ -177,7 +254,9 @@ fn sheets_refuse() {
         let mut lent = with(faults);
         let mut bytes = vec![1u8, 0];
         bytes.extend((lent.weights.len() as u16).to_le_bytes());
-        lent.weights.iter().for_each(|&w| bytes.extend((w as u16).to_le_bytes()));
+        lent.weights
+            .iter()
+            .for_each(|&w| bytes.extend((w as u16).to_le_bytes()));
         let mut all = record(bytes);
         let mut bytes = vec![2u8, 0];
         lent.offsets.resize(9, 8);
@@ -187,10 +266,15 @@ fn sheets_refuse() {
         }
         all.extend(record(bytes));
         let mut bytes = vec![3u8, 0];
-        [lent.grid.width, lent.grid.height, lent.grid.mode].iter().for_each(|&n| bytes.extend((n as u16).to_le_bytes()));
+        [lent.grid.width, lent.grid.height, lent.grid.mode]
+            .iter()
+            .for_each(|&n| bytes.extend((n as u16).to_le_bytes()));
         all.extend(record(bytes));
         let mut bytes = vec![4u8, 0];
-        lent.forbids.iter().flat_map(|f| [f.cell, f.pattern, f.keep]).for_each(|n| bytes.extend((n as u16).to_le_bytes()));
+        lent.forbids
+            .iter()
+            .flat_map(|f| [f.cell, f.pattern, f.keep])
+            .for_each(|n| bytes.extend((n as u16).to_le_bytes()));
         all.extend(record(bytes));
         all
     };
@@ -198,7 +282,12 @@ fn sheets_refuse() {
         let (mut weights, mut offsets, mut ids) = (vec![7; patterns], vec![7; 4 * patterns + 1], vec![7; 8]);
         let mut forbids = vec![Forbid::default(); 2];
         let told = read(sheet, &mut weights, &mut offsets, &mut ids, &mut forbids);
-        assert!(told.is_ok() || (weights.iter().chain(&offsets).all(|&x| x == 7) && ids == [7; 8] && forbids == [Forbid::default(); 2]));
+        assert!(
+            told.is_ok()
+                || (weights.iter().chain(&offsets).all(|&x| x == 7)
+                    && ids == [7; 8]
+                    && forbids == [Forbid::default(); 2])
+        );
         told.map(|_| ())
     };
     assert_eq!(told(&sheet(&[]), 2), Ok(()));
@@ -212,7 +301,11 @@ fn sheets_refuse() {
     }
     let whole = sheet(&[]);
     for cut in 0..whole.len() {
-        assert_eq!((told(&whole[..cut], 2), sizes(&whole[..cut])), (Err(BadSheet), Err(BadSheet)), "{cut}");
+        assert_eq!(
+            (told(&whole[..cut], 2), sizes(&whole[..cut])),
+            (Err(BadSheet), Err(BadSheet)),
+            "{cut}"
+        );
     }
     assert_eq!(sizes(&[&whole[..], &[0]].concat()), Err(BadSheet));
     assert_eq!(sizes(&[]), Err(BadSheet));
@@ -225,7 +318,10 @@ fn record(content: Vec<u8>) -> Vec<u8> {
 }
 
 fn record_of_no_patterns() -> Vec<u8> {
-    [vec![1, 0, 0, 0], vec![2, 0], vec![3, 0, 65, 0, 1, 0, 9, 0], vec![4, 0]].into_iter().flat_map(record).collect()
+    [vec![1, 0, 0, 0], vec![2, 0], vec![3, 0, 65, 0, 1, 0, 9, 0], vec![4, 0]]
+        .into_iter()
+        .flat_map(record)
+        .collect()
 }
 
 #[test]

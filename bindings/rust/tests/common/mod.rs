@@ -13,7 +13,8 @@ pub struct Case {
 
 /// Every case of a file.
 pub fn cases(file: &str) -> Vec<Case> {
-    let folder = env::var("MURGHIDOSSU_VECTORS").unwrap_or(concat!(env!("CARGO_MANIFEST_DIR"), "/../../vectors").into());
+    let folder =
+        env::var("MURGHIDOSSU_VECTORS").unwrap_or(concat!(env!("CARGO_MANIFEST_DIR"), "/../../vectors").into());
     let text = fs::read_to_string(format!("{folder}/{file}")).expect("the recorded cases");
     let mut all = Vec::new();
     for block in text.split("\n\n") {
@@ -30,7 +31,9 @@ pub fn cases(file: &str) -> Vec<Case> {
 }
 
 fn hex(text: &str) -> Vec<u8> {
-    (0..text.len() / 2).map(|k| u8::from_str_radix(&text[2 * k..2 * k + 2], 16).expect("two digits")).collect()
+    (0..text.len() / 2)
+        .map(|k| u8::from_str_radix(&text[2 * k..2 * k + 2], 16).expect("two digits"))
+        .collect()
 }
 
 impl Case {
@@ -44,7 +47,10 @@ impl Case {
     pub fn numbers(&self, word: &str) -> Vec<u64> {
         let text = self.text(word);
         let (times, text) = match text.strip_prefix("* ") {
-            Some(rest) => rest.split_once(' ').map(|(n, rest)| (n.parse().expect("a number"), rest)).expect("a record"),
+            Some(rest) => rest
+                .split_once(' ')
+                .map(|(n, rest)| (n.parse().expect("a number"), rest))
+                .expect("a record"),
             None => (0, text),
         };
         let mut numbers: Vec<u64> = text.split_whitespace().map(|n| n.parse().expect("a number")).collect();
@@ -72,15 +78,34 @@ impl Case {
     }
     pub fn lent(&self) -> Lent {
         let words = |word| self.numbers(word).into_iter().map(|n| n as u32).collect::<Vec<u32>>();
-        let grid = if self.has("grid") { self.numbers("grid") } else { vec![0, 0, 0] };
+        let grid = if self.has("grid") {
+            self.numbers("grid")
+        } else {
+            vec![0, 0, 0]
+        };
         let forbids = words("forbids");
         Lent {
-            count: if self.has("patterns") { self.number("patterns") } else { 0 },
+            count: if self.has("patterns") {
+                self.number("patterns")
+            } else {
+                0
+            },
             offsets: words("offsets"),
             ids: self.numbers("ids").into_iter().map(|n| n as u8).collect(),
             weights: words("weights"),
-            grid: Grid { width: grid[0] as usize, height: grid[1] as usize, mode: grid[2] as usize },
-            forbids: forbids.chunks(3).map(|f| Forbid { cell: f[0], pattern: f[1], keep: f[2] }).collect(),
+            grid: Grid {
+                width: grid[0] as usize,
+                height: grid[1] as usize,
+                mode: grid[2] as usize,
+            },
+            forbids: forbids
+                .chunks(3)
+                .map(|f| Forbid {
+                    cell: f[0],
+                    pattern: f[1],
+                    keep: f[2],
+                })
+                .collect(),
             noise: words("noise"),
             words: words("words"),
         }
@@ -102,7 +127,12 @@ pub struct Lent {
 
 impl Lent {
     pub fn table(&self) -> Table<'_> {
-        Table { count: self.count, offsets: &self.offsets, ids: &self.ids, weights: &self.weights }
+        Table {
+            count: self.count,
+            offsets: &self.offsets,
+            ids: &self.ids,
+            weights: &self.weights,
+        }
     }
     pub fn cells(&self) -> usize {
         self.grid.width.wrapping_mul(self.grid.height)
@@ -159,7 +189,11 @@ pub fn checker() -> Lent {
         offsets: (0..9).collect(),
         ids: vec![1, 1, 1, 1, 0, 0, 0, 0],
         weights: vec![2, 3],
-        grid: Grid { width: 2, height: 1, mode: 0 },
+        grid: Grid {
+            width: 2,
+            height: 1,
+            mode: 0,
+        },
         forbids: vec![],
         noise: vec![5, 4],
         words: vec![1, 2],
