@@ -42,7 +42,7 @@ static const unsigned listed[CALLS] = {
     R(10) | R(3) | R(1) | R(2) | R(5) | R(4) | R(6) | R(7) | R(8) | R(9),
     R(3) | R(1) | R(2) | R(5) | R(4) | R(6) | R(7) | R(8) | R(9),
 };
-static unsigned long told[CALLS][12], ends[4], settled[2], found[CALLS][2];
+static unsigned long told[CALLS][12], ends[4], settled[2], found[CALLS][2], damaged_worlds, damaged_sheets;
 
 static volatile unsigned long the_case;
 static volatile int the_call = -1;
@@ -91,8 +91,10 @@ static uint64_t extreme(void) {
 #define KNOWN 0x6d
 static const size_t region_pages[SIZES_OF_REGION] = {1, 24, 80};
 static uint8_t *regions[SLOTS][SIZES_OF_REGION];
-#define HUGE ((size_t)1 << 34)
-static uint8_t *huge; /* so many readable zero bytes, of which none is ever written */
+#define HUGE ((size_t)1 << 35)
+static uint8_t *huge; /* so many zero bytes that can be read and not written */
+static uint8_t *vast; /* the same, and can be written: for outputs that may be longer than what is written */
+#define SEEN 100000u  /* so many bytes of it are looked at after a call */
 
 static struct lent {
     uint8_t *at, *region;
@@ -112,13 +114,12 @@ static uint8_t *guarded(size_t pages) {
 static void *lend(const void *was, size_t bytes) {
     struct lent *slot = &slots[used_slots];
     int size = 0;
-    if (bytes > HUGE / 2) fail("a slice without memory");
-    if (was == huge) {
-        slot->at = huge;
-        slot->bytes = 0;
-        slot->region_bytes = 0;
+    if (was == huge || was == vast) {
+        if (bytes > HUGE) fail("a slice without memory");
+        slot->at = (uint8_t *)was;
+        slot->bytes = slot->region_bytes = 0;
         used_slots++;
-        return huge;
+        return slot->at;
     }
     while (region_pages[size] * PAGE < bytes) size++;
     slot->region = regions[used_slots][size];
@@ -168,7 +169,7 @@ static void returned(void) {
 static void all_same(void) {
     int k;
     for (k = 0; k < used_slots; k++)
-        if (!same(slots[k].at)) fail("lent memory is changed");
+        if (slots[k].at == vast ? !all(vast, SEEN, 0) : !same(slots[k].at)) fail("lent memory is changed");
 }
 
 /* Notes an answer; whether it is accepted. */
@@ -189,16 +190,19 @@ static int judged(uint64_t answer) {
 #define MOST_FORBIDS 12600
 #define MOST_SHEET 80000
 #define MOST_CELLS 1100
+#define MORE 64 /* entries that damage can lengthen a slice by */
 static struct world {
     size_t count, width, height, mode, pattern, direction, cell;
     uint64_t domain;
     uint32_t word;
-    uint32_t weights[300], offsets[600], noise[MOST_CELLS], words[MOST_CELLS], forbids[MOST_FORBIDS];
-    uint8_t ids[MOST_IDS], sheet[MOST_SHEET];
-    uint64_t domains[MOST_CELLS];
+    uint32_t weights[300], offsets[600], noise[MOST_CELLS + MORE], words[MOST_CELLS + MORE], forbids[MOST_FORBIDS + MORE];
+    uint8_t ids[MOST_IDS + MORE], sheet[MOST_SHEET];
+    uint64_t domains[MOST_CELLS + MORE];
     size_t n_weights, n_offsets, n_ids, n_noise, n_words, n_forbids, n_domains, n_counts, n_pending, n_floats, n_marks, n_out, n_sheet;
-    int huge_ids, huge_words, huge_forbids, huge_sheet;
+    unsigned huge; /* which slices have billions of entries */
 } w;
+enum { WEIGHTS, OFFSETS, IDS, NOISE, WORDS, FORBIDS, DOMAINS, COUNTS, PENDING, FLOATS, MARKS, OUT, SHEET, SLICES };
+static const size_t entry[SLICES] = {4, 4, 1, 4, 4, 4, 8, 1, 4, 4, 1, 1, 1};
 
 static uint8_t pool[1 << 19]; /* old content for work memory */
 static const void *old(size_t bytes) { return pool + below(sizeof pool - bytes); }
@@ -238,6 +242,8 @@ static void make_table(void) {
 
 static void make_world(void) {
     size_t k;
+    memset(w.weights, 0, sizeof w.weights);
+    memset(w.offsets, 0, sizeof w.offsets);
     make_table();
     if (one_in(2000)) {
         w.width = 1 + below(64);
@@ -273,18 +279,37 @@ static void make_world(void) {
     w.cell = below(w.n_noise);
     w.domain = w.domains[0];
     w.word = (uint32_t)next();
-    w.huge_ids = w.huge_words = w.huge_forbids = w.huge_sheet = 0;
+    w.huge = 0;
+    /* nothing of an earlier case is in what a slice is lengthened by */
+    memset(w.ids + w.n_ids, 0, MORE * sizeof *w.ids);
+    memset(w.noise + w.n_noise, 0, MORE * sizeof *w.noise);
+    memset(w.words + w.n_words, 0, MORE * sizeof *w.words);
+    memset(w.forbids + w.n_forbids, 0, MORE * sizeof *w.forbids);
+    memset(w.domains + w.n_domains, 0, MORE * sizeof *w.domains);
 }
 
 /* ---- damage */
 
-static void flip(void *at, size_t bytes) {
+static int flip(void *at, size_t bytes) {
     size_t k, times = 1 + below(4);
     for (k = 0; bytes && k < times; k++) ((uint8_t *)at)[below(bytes)] ^= (uint8_t)(1 << below(8));
+    return bytes != 0;
 }
-static size_t another(size_t n, size_t most) {
-    size_t m = one_in(3) ? n + 1 : one_in(3) ? (n ? n - 1 : 0) : one_in(3) ? 0 : one_in(2) ? n / 2 : n + below(9);
-    return m < most ? m : most;
+static int another(size_t *n, size_t most) {
+    size_t was = *n, m = one_in(3) ? was + 1 : one_in(3) ? was - 1 : one_in(3) ? 0 : one_in(2) ? was / 2 : was + below(9);
+    *n = m < most ? m : most;
+    return *n != was;
+}
+static int set(void *at, size_t k, size_t many, size_t size, uint64_t number) {
+    uint8_t was[8];
+    if (k >= many) return 0;
+    memcpy(was, (uint8_t *)at + k * size, size);
+    memcpy((uint8_t *)at + k * size, &number, size);
+    return memcmp(was, &number, size) != 0;
+}
+static int number(size_t *n) {
+    size_t was = *n;
+    return was != (*n = extreme());
 }
 /* an id goes from a list, or comes to one: the lists disagree, or one is empty or out of order */
 static void damage_list(void) {
@@ -301,67 +326,68 @@ static void damage_list(void) {
     }
 }
 
-static void damage_once(void) {
-    size_t k = 0;
-    switch (below(16)) {
-    case 0:
-        switch (below(7)) {
-        case 0: w.count = extreme(); break;
-        case 1: w.width = extreme(); break;
-        case 2: w.height = extreme(); break;
-        case 3: w.mode = extreme(); break;
-        case 4: w.pattern = extreme(); break;
-        case 5: w.direction = extreme(); break;
-        default: w.cell = extreme();
+/* whether the offsets name a part of the ids for each list, so that an id can be put in or taken out */
+static int in_shape(void) {
+    size_t k;
+    if (!w.count || w.count > 64 || w.n_offsets != 4 * w.count + 1 || w.offsets[w.n_offsets - 1] != w.n_ids) return 0;
+    for (k = 0; k + 1 < w.n_offsets; k++)
+        if (w.offsets[k] > w.offsets[k + 1]) return 0;
+    return 1;
+}
+
+static int damage_length(void) {
+    switch (below(12)) {
+    case 0: return another(&w.n_weights, 300);
+    case 1: return another(&w.n_offsets, 600);
+    case 2: return another(&w.n_ids, MOST_IDS);
+    case 3: return another(&w.n_noise, MOST_CELLS);
+    case 4: return another(&w.n_words, MOST_CELLS);
+    case 5: return another(&w.n_forbids, MOST_FORBIDS);
+    case 6: return another(&w.n_domains, MOST_CELLS);
+    case 7: return another(&w.n_counts, 270000);
+    case 8: return another(&w.n_pending, 67000);
+    case 9: return another(&w.n_floats, 2200);
+    case 10: return another(&w.n_marks, 2300);
+    default: return another(&w.n_out, 60000);
+    }
+}
+
+/* Damages the world in one way; whether it did. */
+static int damage_once(void) {
+    size_t k;
+    switch (below(18)) {
+    case 0: return number(&w.count);
+    case 1: return number(one_in(2) ? &w.width : &w.height);
+    case 2: return number(&w.mode);
+    case 3: return number(one_in(3) ? &w.pattern : one_in(2) ? &w.direction : &w.cell);
+    case 4: return damage_length();
+    case 5: return flip(w.weights, 4 * w.n_weights);
+    case 6: return flip(w.offsets, 4 * w.n_offsets);
+    case 7: return flip(w.ids, w.n_ids);
+    case 8: return flip(w.forbids, 4 * w.n_forbids);
+    case 9: return flip(w.domains, 8 * w.n_domains);
+    case 10: return flip(w.noise, 4 * w.n_noise);
+    case 11: return set(w.offsets, below(w.n_offsets), w.n_offsets, 4, extreme());
+    case 12: return set(w.weights, below(w.n_weights), w.n_weights, 4, one_in(2) ? below(2000) : extreme());
+    case 13: return set(w.ids, below(w.n_ids), w.n_ids, 1, extreme());
+    case 14: return set(w.forbids, below(w.n_forbids), w.n_forbids, 4, extreme());
+    case 15: return set(&w.domain, 0, 1, 8, one_in(2) ? next() : extreme());
+    case 16:
+        if (one_in(3)) {
+            if (!one_in(8)) return 0;
+            for (k = 0; k < w.n_ids; k++) w.ids[k] = (uint8_t)next();
+            return w.n_ids != 0;
         }
-        break;
-    case 1:
-        switch (below(12)) {
-        case 0: w.n_weights = another(w.n_weights, 300); break;
-        case 1: w.n_offsets = another(w.n_offsets, 600); break;
-        case 2: w.n_ids = another(w.n_ids, MOST_IDS); break;
-        case 3: w.n_noise = another(w.n_noise, MOST_CELLS); break;
-        case 4: w.n_words = another(w.n_words, MOST_CELLS); break;
-        case 5: w.n_forbids = another(w.n_forbids, MOST_FORBIDS); break;
-        case 6: w.n_domains = another(w.n_domains, MOST_CELLS); break;
-        case 7: w.n_counts = another(w.n_counts, 270000); break;
-        case 8: w.n_pending = another(w.n_pending, 67000); break;
-        case 9: w.n_floats = another(w.n_floats, 2200); break;
-        case 10: w.n_marks = another(w.n_marks, 2300); break;
-        default: w.n_out = another(w.n_out, 60000);
-        }
-        break;
-    case 2: flip(w.weights, 4 * w.n_weights); break;
-    case 3: flip(w.offsets, 4 * w.n_offsets); break;
-    case 4: flip(w.ids, w.n_ids); break;
-    case 5: flip(w.forbids, 4 * w.n_forbids); break;
-    case 6: flip(w.domains, 8 * w.n_domains); break;
-    case 7: flip(w.noise, 4 * w.n_noise); break;
-    case 8: w.offsets[below(w.n_offsets)] = (uint32_t)extreme(); break;
-    case 9: w.weights[below(w.n_weights)] = (uint32_t)(one_in(2) ? below(2000) : extreme()); break;
-    case 10:
-        if (w.n_ids) w.ids[below(w.n_ids)] = (uint8_t)extreme();
-        break;
-    case 11:
-        if (w.n_forbids) w.forbids[below(w.n_forbids)] = (uint32_t)extreme();
-        break;
-    case 12: w.domain = one_in(2) ? next() : extreme(); break;
-    case 13:
-        if (one_in(8)) /* a slice of billions */
-            switch (below(3)) {
-            case 0: w.huge_ids = 1; break;
-            case 1: w.huge_words = 1; break;
-            default: w.huge_forbids = one_in(200); /* all of them are looked at, which takes seconds */
-            }
-        break;
-    case 14:
-        for (k = 0; one_in(8) && k < w.n_ids; k++) w.ids[k] = (uint8_t)next();
-        break;
+        if (!one_in(8)) return 0;
+        k = below(SHEET);
+        /* all forbids are looked at before their number is, which takes seconds */
+        if (k == FORBIDS && !one_in(400)) return 0;
+        w.huge |= 1u << k;
+        return 1;
     default:
-        if (w.count && w.count <= 64 && w.n_offsets == 4 * w.count + 1 && w.offsets[w.n_offsets - 1] == w.n_ids) {
-            for (k = 0; k + 1 < w.n_offsets && w.offsets[k] <= w.offsets[k + 1]; k++) {}
-            if (k + 1 == w.n_offsets) damage_list();
-        }
+        if (!in_shape()) return 0;
+        damage_list();
+        return 1;
     }
 }
 
@@ -412,67 +438,82 @@ static void make_sheet(void) {
     close_record(3, n);
     w.n_sheet = n;
 }
-static void damage_sheet(void) {
-    size_t k;
+/* Damages its bytes in one way; whether it did. */
+static int damage_sheet(void) {
+    size_t k, was = w.n_sheet;
     switch (below(8)) {
-    case 0: flip(w.sheet, w.n_sheet); break;
-    case 1: w.n_sheet = below(w.n_sheet + 1); break;
+    case 0: return flip(w.sheet, w.n_sheet);
+    case 1: w.n_sheet = below(w.n_sheet + 1); return w.n_sheet != was;
     case 2:
-        for (k = below(12); k && w.n_sheet + 1 < MOST_SHEET; k--) w.sheet[w.n_sheet++] = (uint8_t)next();
-        break;
-    case 3: put(heads[below(4)], one_in(2) ? extreme() : below(100), 4); break;
-    case 4: put(heads[below(4)] + 4, extreme(), 2); break;
-    case 5: put(6, extreme(), 2); break;
+        for (k = 1 + below(12); k && w.n_sheet + 1 < MOST_SHEET; k--) w.sheet[w.n_sheet++] = (uint8_t)next();
+        return w.n_sheet != was;
+    case 3: return set(w.sheet + heads[below(4)], 0, 1, 4, one_in(2) ? extreme() : below(100));
+    case 4: return set(w.sheet + heads[below(4)] + 4, 0, 1, 2, extreme());
+    case 5: return set(w.sheet + 6, 0, 1, 2, extreme());
     case 6:
-        for (k = below(w.n_sheet + 1); k < w.n_sheet; k++) w.sheet[k] = (uint8_t)next();
-        break;
+        for (k = below(w.n_sheet); k < w.n_sheet; k++) w.sheet[k] = (uint8_t)next();
+        return 1;
     default:
-        if (one_in(50)) w.huge_sheet = 1;
-        else flip(w.sheet + heads[1], heads[2] - heads[1]);
+        if (!one_in(50)) return flip(w.sheet + heads[1], heads[2] - heads[1]);
+        w.huge |= 1u << SHEET;
+        return 1;
     }
 }
 
 /* ---- the calls */
 
-#define SLICE(p, n) lend(p, (n) * sizeof *(p)), (n)
-static size_t billions(size_t size) { return (((size_t)1 << 31) + below((size_t)1 << 30)) / size * 2; }
-static size_t n_ids, n_words, n_forbids;
+/* How many entries of each slice are lent; between 2^32 and 2^33 of a huge one. */
+static size_t many[SLICES];
+static void lengths(void) {
+    const size_t sizes[SLICES] = {w.n_weights, w.n_offsets, w.n_ids,    w.n_noise, w.n_words, w.n_forbids, w.n_domains,
+                                  w.n_counts,  w.n_pending, w.n_floats, w.n_marks, w.n_out,   w.n_sheet};
+    int k;
+    for (k = 0; k < SLICES; k++) many[k] = w.huge >> k & 1 ? ((size_t)1 << 32) + below((size_t)1 << 31) : sizes[k];
+    /* three for each, or not */
+    if (w.huge >> FORBIDS & 1 && one_in(2)) many[FORBIDS] -= many[FORBIDS] % 3;
+    for (k = 0; k < SLICES; k++)
+        if (many[k] * entry[k] > HUGE) many[k] = HUGE / entry[k];
+}
+/* Lends a slice with this content. */
+static void *lend_as(int slice, const void *was) {
+    return lend(w.huge >> slice & 1 ? (slice == OUT ? vast : huge) : was, many[slice] * entry[slice]);
+}
+/* Lends one with old content. */
+static void *lend_old(int slice) { return lend_as(slice, w.huge >> slice & 1 ? huge : old(many[slice] * entry[slice])); }
+
+/* Past so many bytes the output is as it was. */
+static int kept_past(const uint8_t *out, const uint8_t *was, size_t bytes) {
+    return out == vast ? all(vast + bytes, SEEN - bytes, 0) : !memcmp(out + bytes, was + bytes, many[OUT] - bytes);
+}
+
 static const uint8_t *the_ids;
 static const uint32_t *the_words, *the_forbids;
 
-static const void *lend_ids(void) { return the_ids = lend(w.huge_ids ? huge : w.ids, w.huge_ids ? n_ids : w.n_ids); }
-
-static void lengths(void) {
-    n_ids = w.huge_ids ? billions(1) : w.n_ids;
-    n_words = w.huge_words ? billions(4) : w.n_words;
-    n_forbids = w.huge_forbids ? billions(4) : w.n_forbids;
-}
-
 static void call_check_table(void) {
-    const uint32_t *weights = lend(w.weights, 4 * w.n_weights), *offsets = lend(w.offsets, 4 * w.n_offsets);
+    const uint32_t *weights = lend_as(WEIGHTS, w.weights), *offsets = lend_as(OFFSETS, w.offsets);
     the_call = CHECK_TABLE;
-    if (judged(murghidossu_check_table(w.count, weights, w.n_weights, offsets, w.n_offsets, lend_ids(), n_ids))) all_same();
+    if (judged(murghidossu_check_table(w.count, weights, many[WEIGHTS], offsets, many[OFFSETS], lend_as(IDS, w.ids), many[IDS]))) all_same();
     returned();
 }
 
 static void call_list(void) {
-    const uint32_t *offsets = lend(w.offsets, 4 * w.n_offsets);
+    const uint32_t *offsets = lend_as(OFFSETS, w.offsets);
     uint64_t answer, beside_it;
-    size_t k, start, many;
-    lend_ids();
+    size_t k, start, ids_in;
+    the_ids = lend_as(IDS, w.ids);
     the_call = LIST;
-    answer = murghidossu_list(w.count, offsets, w.n_offsets, the_ids, n_ids, w.pattern, w.direction);
+    answer = murghidossu_list(w.count, offsets, many[OFFSETS], the_ids, many[IDS], w.pattern, w.direction);
     start = answer >> 32;
-    many = answer >> 8 & 0xffffff;
+    ids_in = answer >> 8 & 0xffffff;
     if (judged(answer)) {
         all_same();
-        if (start + many > w.n_ids || !many || many > w.count) fail("a part that does not lie among the ids");
-        for (k = start; k < start + many; k++)
+        if (start + ids_in > w.n_ids || !ids_in || ids_in > w.count) fail("a part that does not lie among the ids");
+        for (k = start; k < start + ids_in; k++)
             if (w.ids[k] >= w.count || (k > start && w.ids[k] <= w.ids[k - 1])) fail("a part that is no list");
         if (start != w.offsets[4 * w.pattern + w.direction]) fail("the part begins elsewhere");
     }
     the_call = LIST_REFUSAL;
-    beside_it = murghidossu_list_refusal(w.count, offsets, w.n_offsets, the_ids, n_ids, w.pattern, w.direction);
+    beside_it = murghidossu_list_refusal(w.count, offsets, many[OFFSETS], the_ids, many[IDS], w.pattern, w.direction);
     judged(beside_it);
     all_same();
     if (beside_it != (answer & 255)) fail("list and list_refusal differ");
@@ -480,7 +521,7 @@ static void call_list(void) {
 }
 
 static void call_asked(void) {
-    const uint32_t *weights = lend(w.weights, 4 * w.n_weights);
+    const uint32_t *weights = lend_as(WEIGHTS, w.weights);
     uint64_t answer;
     uint32_t value;
     the_call = NEIGHBOUR;
@@ -490,7 +531,7 @@ static void call_asked(void) {
         if (answer & 256 ? answer != 256 : (answer & 0xffffffff) || (answer >> 32) >= cells_of()) fail("an answer that is none");
     }
     the_call = ENTROPY_OF;
-    answer = murghidossu_entropy_of(w.count, weights, w.n_weights, w.domain);
+    answer = murghidossu_entropy_of(w.count, weights, many[WEIGHTS], w.domain);
     if (judged(answer)) {
         all_same();
         found[ENTROPY_OF][answer >> 8 & 1]++;
@@ -498,7 +539,7 @@ static void call_asked(void) {
         if (answer & 256 ? answer != 256 : (answer & 0xffffffff) || value > 0x7f800000) fail("an answer that is none");
     }
     the_call = CHOICE_OF;
-    answer = murghidossu_choice_of(w.count, weights, w.n_weights, w.domain, w.word);
+    answer = murghidossu_choice_of(w.count, weights, many[WEIGHTS], w.domain, w.word);
     if (judged(answer)) {
         all_same();
         found[CHOICE_OF][answer >> 8 & 1]++;
@@ -520,23 +561,23 @@ static void judge_domains(const uint64_t *domains, int empty, int decided) {
 }
 
 static void call_propagate(void) {
-    const uint32_t *offsets = lend(w.offsets, 4 * w.n_offsets);
+    const uint32_t *offsets = lend_as(OFFSETS, w.offsets);
     uint64_t *domains, answer;
     uint8_t *counts;
     uint32_t *pending;
     size_t k;
-    lend_ids();
-    domains = lend(w.domains, 8 * w.n_domains);
-    counts = lend(old(w.n_counts), w.n_counts);
-    pending = lend(old(4 * w.n_pending), 4 * w.n_pending);
+    the_ids = lend_as(IDS, w.ids);
+    domains = lend_as(DOMAINS, w.domains);
+    counts = lend_old(COUNTS);
+    pending = lend_old(PENDING);
     the_call = PROPAGATE;
-    answer = murghidossu_propagate(w.count, offsets, w.n_offsets, the_ids, n_ids, w.width, w.height, w.mode, domains, w.n_domains, counts,
-                                   w.n_counts, pending, w.n_pending);
+    answer = murghidossu_propagate(w.count, offsets, many[OFFSETS], the_ids, many[IDS], w.width, w.height, w.mode, domains, many[DOMAINS], counts,
+                                   many[COUNTS], pending, many[PENDING]);
     if (judged(answer)) {
         if (answer != 0 && answer != 256) fail("an answer that is none");
         settled[answer >> 8]++;
         if (!same(offsets) || !same(the_ids)) fail("a slice that is only read is changed");
-        if (!all(counts, w.n_counts, 0) || !all((uint8_t *)pending, 4 * w.n_pending, 0)) fail("work memory is not zero");
+        if (!all(counts, many[COUNTS], 0) || !all((uint8_t *)pending, 4 * w.n_pending, 0)) fail("work memory is not zero");
         judge_domains(domains, answer == 256, 0);
         for (k = 0; k < w.n_domains; k++)
             if (domains[k] & ~w.domains[k]) fail("a pattern that was not there");
@@ -548,50 +589,51 @@ static uint64_t last_run;
 static uint64_t last_domains[MOST_CELLS];
 
 static void call_run(int result) {
-    const uint32_t *weights = lend(w.weights, 4 * w.n_weights), *offsets = lend(w.offsets, 4 * w.n_offsets), *noise = lend(w.noise, 4 * w.n_noise);
+    const uint32_t *weights = lend_as(WEIGHTS, w.weights), *offsets = lend_as(OFFSETS, w.offsets), *noise = lend_as(NOISE, w.noise);
     uint64_t *domains, answer;
     uint8_t *counts, *marks, *out = 0;
     uint32_t *pending;
     float *floats;
     const uint8_t *was = 0;
     size_t k, need = MURGHIDOSSU_RESULT_LENGTH(cells_of());
-    the_words = lend(w.huge_words ? (void *)huge : w.words, w.huge_words ? 4 * n_words : 4 * w.n_words);
-    the_forbids = lend(w.huge_forbids ? (void *)huge : w.forbids, w.huge_forbids ? 4 * n_forbids : 4 * w.n_forbids);
-    lend_ids();
-    domains = lend(old(8 * w.n_domains), 8 * w.n_domains);
-    counts = lend(old(w.n_counts), w.n_counts);
-    pending = lend(old(4 * w.n_pending), 4 * w.n_pending);
-    floats = lend(old(4 * w.n_floats), 4 * w.n_floats);
-    marks = lend(old(w.n_marks), w.n_marks);
+    the_words = lend_as(WORDS, w.words);
+    the_forbids = lend_as(FORBIDS, w.forbids);
+    the_ids = lend_as(IDS, w.ids);
+    domains = lend_old(DOMAINS);
+    counts = lend_old(COUNTS);
+    pending = lend_old(PENDING);
+    floats = lend_old(FLOATS);
+    marks = lend_old(MARKS);
     if (result) {
-        was = old(w.n_out);
-        out = lend(was, w.n_out);
+        was = w.huge >> OUT & 1 ? vast : old(many[OUT]);
+        out = lend_as(OUT, was);
         the_call = RUN_RESULT;
-        answer = murghidossu_run_result(the_forbids, n_forbids, w.count, w.width, w.height, w.mode, weights, w.n_weights, offsets, w.n_offsets,
-                                        the_ids, n_ids, noise, w.n_noise, the_words, n_words, domains, w.n_domains, counts, w.n_counts, pending,
-                                        w.n_pending, floats, w.n_floats, marks, w.n_marks, out, w.n_out);
+        answer = murghidossu_run_result(the_forbids, many[FORBIDS], w.count, w.width, w.height, w.mode, weights, many[WEIGHTS], offsets, many[OFFSETS],
+                                        the_ids, many[IDS], noise, many[NOISE], the_words, many[WORDS], domains, many[DOMAINS], counts, many[COUNTS], pending,
+                                        many[PENDING], floats, many[FLOATS], marks, many[MARKS], out, many[OUT]);
     } else {
         the_call = RUN;
-        answer = murghidossu_run(the_forbids, n_forbids, w.count, w.width, w.height, w.mode, weights, w.n_weights, offsets, w.n_offsets, the_ids,
-                                 n_ids, noise, w.n_noise, the_words, n_words, domains, w.n_domains, counts, w.n_counts, pending, w.n_pending,
-                                 floats, w.n_floats, marks, w.n_marks);
+        answer = murghidossu_run(the_forbids, many[FORBIDS], w.count, w.width, w.height, w.mode, weights, many[WEIGHTS], offsets, many[OFFSETS], the_ids,
+                                 many[IDS], noise, many[NOISE], the_words, many[WORDS], domains, many[DOMAINS], counts, many[COUNTS], pending, many[PENDING],
+                                 floats, many[FLOATS], marks, many[MARKS]);
     }
     if (judged(answer)) {
         unsigned end = (unsigned)(answer >> 8 & 0xffffff);
         size_t used = answer >> 32;
-        if (end > 3 || used > cells_of() || used > n_words) fail("an answer that is none");
+        if (end > 3 || used > cells_of() || used > many[WORDS]) fail("an answer that is none");
         ends[end]++;
         if (!same(weights) || !same(offsets) || !same(noise) || !same(the_words) || !same(the_forbids) || !same(the_ids))
             fail("a slice that is only read is changed");
-        if (!all(counts, w.n_counts, 0) || !all((uint8_t *)pending, 4 * w.n_pending, 0) || !all((uint8_t *)floats, 4 * w.n_floats, 0) ||
-            !all(marks, w.n_marks, 0))
+        if (!all(counts, many[COUNTS], 0) || !all((uint8_t *)pending, 4 * w.n_pending, 0) || !all((uint8_t *)floats, 4 * w.n_floats, 0) ||
+            !all(marks, many[MARKS], 0))
             fail("work memory is not zero");
         judge_domains(domains, end == MURGHIDOSSU_CONTRADICTION, end == MURGHIDOSSU_DECIDED);
         if (result) {
             if (answer != last_run || memcmp(domains, last_domains, 8 * cells_of())) fail("run and run_result differ");
             if (out[4] != 5 || out[6] != end || (size_t)out[8] + 256u * out[9] != used || memcmp(out + 10, domains, 8 * cells_of()))
                 fail("a result that is not the run's");
-            if (memcmp(out + need, was + need, w.n_out - need)) fail("what stands past the result is changed");
+            if (!kept_past(out, was, need)) fail("what stands past the result is changed");
+            if (out == vast) memset(vast, 0, need);
         }
         for (k = 0; k < cells_of(); k++) last_domains[k] = domains[k];
     } else if (result && !(last_run & 255) && answer != MURGHIDOSSU_BAD_LENGTH) fail("run and run_result differ");
@@ -602,22 +644,22 @@ static void call_run(int result) {
 static uint8_t written[MOST_SHEET];
 
 static void call_write(void) {
-    const uint32_t *weights = lend(w.weights, 4 * w.n_weights), *offsets = lend(w.offsets, 4 * w.n_offsets);
-    const uint8_t *was = old(w.n_out);
-    uint8_t *out = lend(was, w.n_out);
+    const uint32_t *weights = lend_as(WEIGHTS, w.weights), *offsets = lend_as(OFFSETS, w.offsets);
+    const uint8_t *was = w.huge >> OUT & 1 ? vast : old(many[OUT]);
+    uint8_t *out = lend_as(OUT, was);
     uint64_t answer;
     size_t bytes;
-    the_forbids = lend(w.huge_forbids ? (void *)huge : w.forbids, w.huge_forbids ? 4 * n_forbids : 4 * w.n_forbids);
+    the_forbids = lend_as(FORBIDS, w.forbids);
     the_call = WRITE;
-    answer = murghidossu_write(w.count, weights, w.n_weights, offsets, w.n_offsets, lend_ids(), n_ids, w.width, w.height, w.mode, the_forbids,
-                               n_forbids, out, w.n_out);
+    answer = murghidossu_write(w.count, weights, many[WEIGHTS], offsets, many[OFFSETS], lend_as(IDS, w.ids), many[IDS], w.width, w.height, w.mode, the_forbids,
+                               many[FORBIDS], out, many[OUT]);
     if (judged(answer)) {
         if (!same(weights) || !same(offsets) || !same(the_forbids) || !same(the_ids)) fail("a slice that is only read is changed");
         bytes = answer >> 32;
         if ((answer & 0xffffffff) || bytes != MURGHIDOSSU_SHEET_LENGTH(w.count, w.n_ids, w.n_forbids / 3) || bytes > MURGHIDOSSU_SHEET)
             fail("an answer that is none");
-        if (memcmp(out + bytes, was + bytes, w.n_out - bytes)) fail("what stands past the sheet is changed");
-        memcpy(written, out, bytes);
+        if (!kept_past(out, was, bytes)) fail("what stands past the sheet is changed");
+        if (out == vast) memset(vast, 0, bytes);
     }
     returned();
 }
@@ -626,8 +668,8 @@ static void call_sizes_and_read(void) {
     static size_t measures[7];
     static uint32_t weights[70000], offsets[300000 / 4], forbids[3 * 4200];
     static uint8_t ids[66000];
-    size_t n_sheet = w.huge_sheet ? billions(1) : w.n_sheet, n_measures = one_in(8) ? below(8) : MURGHIDOSSU_MEASURES_LENGTH, many[4];
-    const uint8_t *sheet = lend(w.huge_sheet ? huge : w.sheet, w.huge_sheet ? n_sheet : w.n_sheet), *old_ids;
+    size_t n_sheet = many[SHEET], n_measures = one_in(8) ? below(8) : MURGHIDOSSU_MEASURES_LENGTH, room[4];
+    const uint8_t *sheet = lend_as(SHEET, w.sheet), *old_ids;
     const uint32_t *old_weights, *old_offsets, *old_forbids;
     size_t *to = lend(old(8 * n_measures), 8 * n_measures);
     uint64_t answer;
@@ -642,43 +684,43 @@ static void call_sizes_and_read(void) {
             fail("measures that no sheet has");
     }
     returned();
-    many[0] = measures[0] < 300 ? measures[0] : 300;
-    many[1] = 4 * many[0] + 1;
-    many[2] = (measures[1] < 60000 ? measures[1] : 60000) + (one_in(2) ? 0 : below(20));
-    many[3] = 3 * measures[5] + (one_in(2) ? 0 : below(20));
+    room[0] = measures[0] < 300 ? measures[0] : 300;
+    room[1] = 4 * room[0] + 1;
+    room[2] = (measures[1] < 60000 ? measures[1] : 60000) + (one_in(2) ? 0 : below(20));
+    room[3] = 3 * measures[5] + (one_in(2) ? 0 : below(20));
     if (one_in(6)) {
         size_t k = below(4);
-        many[k] = another(many[k], many[k] + 9);
+        another(&room[k], room[k] + 9);
     }
-    old_weights = old(4 * many[0]);
-    old_offsets = old(4 * many[1]);
-    old_ids = old(many[2]);
-    old_forbids = old(4 * many[3]);
+    old_weights = old(4 * room[0]);
+    old_offsets = old(4 * room[1]);
+    old_ids = old(room[2]);
+    old_forbids = old(4 * room[3]);
     {
         uint32_t *to_weights, *to_offsets, *to_forbids;
         uint8_t *to_ids;
-        sheet = lend(w.huge_sheet ? huge : w.sheet, w.huge_sheet ? n_sheet : w.n_sheet);
-        to_weights = lend(old_weights, 4 * many[0]);
-        to_offsets = lend(old_offsets, 4 * many[1]);
-        to_ids = lend(old_ids, many[2]);
-        to_forbids = lend(old_forbids, 4 * many[3]);
+        sheet = lend_as(SHEET, w.sheet);
+        to_weights = lend(old_weights, 4 * room[0]);
+        to_offsets = lend(old_offsets, 4 * room[1]);
+        to_ids = lend(old_ids, room[2]);
+        to_forbids = lend(old_forbids, 4 * room[3]);
         the_call = READ;
-        answer = murghidossu_read(sheet, n_sheet, to_weights, many[0], to_offsets, many[1], to_ids, many[2], to_forbids, many[3]);
+        answer = murghidossu_read(sheet, n_sheet, to_weights, room[0], to_offsets, room[1], to_ids, room[2], to_forbids, room[3]);
         if (judged(answer)) {
             size_t bytes;
             if (answer) fail("an answer that is none");
             if (!same(sheet)) fail("a slice that is only read is changed");
             /* the sizes were not asked for where their slice was no six numbers */
             if (n_measures != 6) murghidossu_sizes(sheet, n_sheet, measures, 6);
-            if (measures[0] != many[0] || measures[1] > many[2] || 3 * measures[5] > many[3]) fail("read, and not of these sizes");
-            if (memcmp(to_ids + measures[1], old_ids + measures[1], many[2] - measures[1]) ||
-                memcmp(to_forbids + 3 * measures[5], old_forbids + 3 * measures[5], 4 * (many[3] - 3 * measures[5])))
+            if (measures[0] != room[0] || measures[1] > room[2] || 3 * measures[5] > room[3]) fail("read, and not of these sizes");
+            if (memcmp(to_ids + measures[1], old_ids + measures[1], room[2] - measures[1]) ||
+                memcmp(to_forbids + 3 * measures[5], old_forbids + 3 * measures[5], 4 * (room[3] - 3 * measures[5])))
                 fail("what stands past the last entry is changed");
-            memcpy(weights, to_weights, 4 * many[0]);
-            memcpy(offsets, to_offsets, 4 * many[1]);
+            memcpy(weights, to_weights, 4 * room[0]);
+            memcpy(offsets, to_offsets, 4 * room[1]);
             memcpy(ids, to_ids, measures[1]);
             memcpy(forbids, to_forbids, 12 * measures[5]);
-            answer = murghidossu_write(many[0], weights, many[0], offsets, many[1], ids, measures[1], measures[2], measures[3], measures[4],
+            answer = murghidossu_write(room[0], weights, room[0], offsets, room[1], ids, measures[1], measures[2], measures[3], measures[4],
                                        forbids, 3 * measures[5], written, sizeof written);
             bytes = answer >> 32;
             if ((answer & 0xffffffff) || bytes != n_sheet || memcmp(written, w.sheet, bytes)) fail("what is read is not written back");
@@ -764,16 +806,20 @@ static int report(unsigned long cases) {
     }
     printf("ends of runs: %lu Decided, %lu Undecided, %lu Paused, %lu Contradiction; propagations: %lu consistent, %lu contradictions\n", ends[0],
            ends[1], ends[2], ends[3], settled[0], settled[1]);
-    printf("fuzz: %lu cases, %lu calls, seed %llu: nothing outside the lent slices was touched, every refusal left memory as it was\n", cases,
-           calls, the_seed);
+    printf("neighbours: %lu cells, %lu edges; entropies: %lu, %lu without; choices: %lu, %lu without\n", found[NEIGHBOUR][0], found[NEIGHBOUR][1],
+           found[ENTROPY_OF][0], found[ENTROPY_OF][1], found[CHOICE_OF][0], found[CHOICE_OF][1]);
+    printf("fuzz: seed %llu, %lu cases: tables, grids, forbids or domains damaged in %lu, bytes of the sheet in %lu\n", the_seed, cases,
+           damaged_worlds, damaged_sheets);
+    printf("fuzz: %lu calls: all ended, nothing outside the lent slices was touched, and every refusal left memory as it was\n", calls);
     for (c = 0; c < 4; c++) missed += !ends[c];
     missed += !settled[0] + !settled[1];
+    for (c = NEIGHBOUR; c <= CHOICE_OF; c++) missed += !found[c][0] + !found[c][1];
     if (missed) printf("fuzz: %d outcomes did not occur: more cases are needed\n", missed);
     return missed != 0;
 }
 
 int main(int argc, char **argv) {
-    unsigned long cases = argc > 1 ? strtoul(argv[1], 0, 10) : 1000000, first = argc > 3 ? strtoul(argv[3], 0, 10) : 1;
+    unsigned long cases = argc > 1 ? strtoul(argv[1], 0, 10) : 2200000, first = argc > 3 ? strtoul(argv[3], 0, 10) : 1;
     size_t k;
     int slot, size, damages;
     struct sigaction on;
@@ -788,7 +834,8 @@ int main(int argc, char **argv) {
     for (slot = 0; slot < SLOTS; slot++)
         for (size = 0; size < SIZES_OF_REGION; size++) regions[slot][size] = guarded(region_pages[size]);
     huge = mmap(0, HUGE, PROT_READ, MAP_PRIVATE | MAP_ANONYMOUS | MAP_NORESERVE, -1, 0);
-    if (huge == MAP_FAILED) fail("no address space");
+    vast = mmap(0, HUGE, PROT_READ | PROT_WRITE, MAP_PRIVATE | MAP_ANONYMOUS | MAP_NORESERVE, -1, 0);
+    if (huge == MAP_FAILED || vast == MAP_FAILED) fail("no address space");
     state = the_seed;
     for (k = 0; k < sizeof pool; k++) pool[k] = (uint8_t)next();
     see();
@@ -796,10 +843,14 @@ int main(int argc, char **argv) {
         state = the_seed * 0x100000001b3u + the_case;
         alarm(60);
         make_world();
-        if (!one_in(20))
-            for (damages = 1 + (int)below(3); damages; damages--) damage_once();
+        damages = one_in(20) ? 0 : 1 + (int)below(3);
+        damaged_worlds += damages > 0;
+        while (damages) damages -= damage_once();
         make_sheet();
-        if (one_in(2)) damage_sheet();
+        if (one_in(2)) {
+            damaged_sheets++;
+            while (!damage_sheet()) {}
+        }
         lengths();
         call_check_table();
         call_list();

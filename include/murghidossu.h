@@ -182,7 +182,7 @@ uint64_t murghidossu_propagate(size_t count, const uint32_t *offsets, size_t off
 /* A run: the forbids in order, then a choice for each word until it ends. The case is murghidossu_end, the value the words used.
  * Refusals, in order: 3 1 2 5 4 6 7, then the forbids one by one, 8 before 9 in each.
  * Written: domains, whose old content is ignored, to what the run leaves; counts, pending, floats and marks, work memory. A number of
- * forbid numbers that is no multiple of three is BAD_LENGTH, as over 4,096 forbids are. */
+ * forbid numbers that is no multiple of three is BAD_LENGTH, as over 4,096 forbids are; each forbid is looked at even then. */
 uint64_t murghidossu_run(const uint32_t *forbids, size_t forbids_length, size_t count, size_t width, size_t height, size_t mode,
                          const uint32_t *weights, size_t weights_length, const uint32_t *offsets, size_t offsets_length, const uint8_t *ids,
                          size_t ids_length, const uint32_t *noise, size_t noise_length, const uint32_t *words, size_t words_length,

@@ -1,11 +1,13 @@
 -- A number tells its answer whole: two answers with one number are the same. Follows docs/RULES.md, "Refusals". Assumes nothing.
 use mathlib.Core.Bool.{Bool, true, false}
+use mathlib.Core.List.{List}
 use mathlib.Core.Option.{Option, none, some}
 use mathlib.Core.Path.{_≡_, refl, sym, ap, _∙_}
 use Prim.Native.Nat.{ℕ, _≤_, _<_}
 use native.Mathlib.Nat.{le-antisymm, le-of-suc-le-suc, lt-of-not-le}
 use native.Mathlib.Omega.{arith}
 use lib.Dec.{T}
+use lib.ListN.{getD}
 use lib.Ieee.{Float, binary32, ofBits, toBits, fits}
 use lib.Ieee.Bits.{ofBits-toBits}
 use Rattle.refusals.specs.declared.Refusal.{Refusal}
@@ -19,9 +21,11 @@ use Rattle.run.specs.declared.Answer.the-variants.{Decided, Undecided, Paused, 
 use Rattle.run.specs.declared.Choice.{Choice}
 use Rattle.run.specs.Called.{End, answerTold}
 use Rattle.run.specs.Asked.{choiceTold}
+use Rattle.sheet.specs.declared.Measures.{Measures}
 use Rattle.sheet.specs.declared.Written.{Written}
 use Rattle.sheet.specs.Called.{writtenTold}
 use Rattle.ocean_c.specs.Coded.{cased, coded, foundCoded, entropyCoded, settledCoded, bytesCoded}
+use Rattle.ocean_c.specs.Returned.{measuresOf}
 use Rattle.refusals.proofs.RefusalLaws.{number-positive, number-most}
 use Rattle.grid.proofs.Unique.{nearOf-injective}
 use Rattle.propagation.proofs.PropagateLaws.{propagatedTold-injective}
@@ -177,3 +181,10 @@ written-sound (written.Refused r) = refuses r
 
 pub bytes-coded : (a b : Written) → bytesCoded (writtenTold a) ≡ bytesCoded (writtenTold b) → a ≡ b
 bytes-coded a b e = writtenTold-injective a b (bytesCoded-injective (writtenTold a) (writtenTold b) (written-sound a) (written-sound b) e)
+
+-- what a sheet holds is known by its six numbers
+pub measures-whole : (m n : Measures) → measuresOf m ≡ measuresOf n → m ≡ n
+unfolding measuresOf
+measures-whole m n e =
+    let at : (k : ℕ) → getD (measuresOf m) k 0 ≡ getD (measuresOf n) k 0 = λ k. ap (λ (l : List ℕ). getD l k 0) e in
+    λ j. record { count = at 0 j; ids = at 1 j; width = at 2 j; height = at 3 j; mode = at 4 j; forbids = at 5 j }
