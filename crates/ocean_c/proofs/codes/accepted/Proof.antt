@@ -15,7 +15,7 @@ add-result : tie.Need-add-result
 add-result c = search needs
 
 returns : tie.Need-returns
-returns c = cased-is _ _
+returns c = cased-is (c .args .case) (c .args .value)
 
 pub accepted-spec : {M : Type 1} → statement M
 accepted-spec = tie.close (tie.spec mul-result mul-result-2 add-result returns)
