@@ -27,6 +27,7 @@
 
 #include <stddef.h>
 #include <stdint.h>
+#include <string.h>
 
 #ifdef __cplusplus
 extern "C" {
@@ -162,12 +163,10 @@ uint64_t murghidossu_choice_of(size_t count, const uint32_t *weights, size_t wei
 
 /* The entropy in an answer of murghidossu_entropy_of that found one. */
 static inline float murghidossu_entropy_in(uint64_t answer) {
-    union {
-        uint32_t bits;
-        float entropy;
-    } both;
-    both.bits = murghidossu_value_of(answer);
-    return both.entropy;
+    uint32_t bits = murghidossu_value_of(answer);
+    float entropy;
+    memcpy(&entropy, &bits, sizeof entropy);
+    return entropy;
 }
 
 /* ---- propagation and runs */
