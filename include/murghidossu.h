@@ -108,7 +108,7 @@ static inline uint32_t murghidossu_value_of(uint64_t answer) { return (uint32_t)
 #define MURGHIDOSSU_COUNTS_LENGTH(patterns, cells) (4 * (patterns) * (cells))
 #define MURGHIDOSSU_PENDING_LENGTH(patterns, cells) ((patterns) * (cells))
 #define MURGHIDOSSU_FLOATS_LENGTH(cells) (2 * (cells))
-#define MURGHIDOSSU_MARKS_LENGTH(cells) (2 * (cells))
+#define MURGHIDOSSU_MARKS_LENGTH(cells) (2 * (cells) + ((cells) + 31) / 32)
 /* Three numbers for each forbid. */
 #define MURGHIDOSSU_FORBIDS_LENGTH(forbids) (3 * (forbids))
 /* What murghidossu_sizes writes. */

@@ -36,9 +36,9 @@ pub const fn floats(cells: usize) -> usize {
     cells.wrapping_mul(2)
 }
 
-/// Marks of a run.
+/// Marks: two for each cell, and one for each block of 32 cells that is begun.
 pub const fn marks(cells: usize) -> usize {
-    cells.wrapping_mul(2)
+    cells.wrapping_mul(2).wrapping_add(cells.div_ceil(32))
 }
 
 /// The bytes that a written sheet needs at least.

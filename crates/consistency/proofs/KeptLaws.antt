@@ -3,7 +3,7 @@
 use mathlib.Core.Bool.{Bool, true, false}
 use mathlib.Core.List.{List, [], _∷_}
 use mathlib.Core.Option.{Option, none, some}
-use mathlib.Core.Path.{_≡_, refl}
+use mathlib.Core.Path.{_≡_, refl, sym, ap, _∙_}
 use Prim.Native.Nat.{ℕ, zero, suc, _*_, _<_}
 use native.Mathlib.Omega.{arith}
 use lib.Dec.{lit<}
@@ -11,12 +11,14 @@ use lib.ListN.{getD}
 use Rattle.adjacency.specs.Tables.{Table, listOf}
 use Rattle.adjacency.specs.Accepted.{AllBelow, Accepted}
 use Rattle.grid.specs.Grid.{Grid, cells, neighbour}
 use Rattle.consistency.specs.Domains.{possible, removed}
 use Rattle.consistency.specs.Worklist.{Removal, removal, State, state, place, remove, decrementAt, decrement, decrements, toward, forbidAt, forbid, forbids, spreadIn, spread, propagate, propagated}
 use Rattle.consistency.specs.Safe.{Inside, Safe}
 use Rattle.words.proofs.BitLaws.{bit-lt}
 use Rattle.grid.proofs.GridLaws.{neighbour-inside}
+use Rattle.consistency.proofs.MapLaws.{mapped, mapped-propagated}
+use Rattle.consistency.proofs.SettledLaws.{safe-beside}
 use Rattle.consistency.proofs.Keep.{counted-possible, pending-inside, safe-popped, safe-decrement, safe-spreadIn, safe-turn}
 
 -- it stays so at every removal
 abbrev pub Stays : {X : Type 0} → (Removal → List ℕ → X → X) → (List ℕ → X → Type 0) → Type 0
@@ -162,3 +164,27 @@ module _ (t : Table) (g : Grid) (T : Accepted t) {X : Type 0} (keep : Removal �
   pub endures-propagated : (M : ℕ) (s : State X) → Safe (t .count) (cells g) M s → Holds A s → Holds A (propagated t g keep s)
   unfolding propagated
   endures-propagated M s S a = endures-propagate M (cells g * t .count) (s .counts) (s .domains) (s .pending) (s .empty) (s .beside) S a
+
+-- ---- where the map of what is kept commutes with the removals at cells of the grid alone
+
+module _ (t : Table) (g : Grid) (T : Accepted t) {X Y : Type 0} (f : X → Y) (keep : Removal → List ℕ → X → X) (keep′ : Removal → List ℕ → Y → Y)
+    (h : (u : Removal) (D : List ℕ) (x : X) → u .cell < cells g → f (keep u D x) ≡ keep′ u D (f x)) where
+  -- both are kept side by side, and the second stays the map of the first
+  abbrev twice : Removal → List ℕ → X × Y → X × Y
+  twice u D z = (keep u D (z .0), keep′ u D (z .1))
+
+  abbrev Maps : List ℕ → X × Y → Type 0
+  Maps D z = f (z .0) ≡ z .1
+
+  maps-endures : Endures (t .count) (cells g) twice Maps
+  maps-endures u D z l p e = h u _ (z .0) l ∙ ap (keep′ u _) e
+
+  -- the work list commutes with the map
+  pub mapped-inside : (M : ℕ) (s : State X) → Safe (t .count) (cells g) M s → mapped f (propagated t g keep s) ≡ propagated t g keep′ (mapped f s)
+  mapped-inside M s S =
+      let s₂ : State (X × Y) = mapped (λ (x : X). (x, f x)) s in
+      let r = propagated t g twice s₂ in
+      ap (mapped f) (sym (mapped-propagated t g (λ (z : X × Y). z .0) twice keep (λ u D z. refl) s₂))
+      ∙ ap (λ (y : Y). state (r .counts) (r .domains) (r .pending) (r .empty) y)
+      (endures-propagated t g T twice Maps maps-endures M s₂ (safe-beside s (s .beside, f (s .beside)) (t .count) (cells g) M S) refl)
+      ∙ mapped-propagated t g (λ (z : X × Y). z .1) twice keep′ (λ u D z. refl) s₂

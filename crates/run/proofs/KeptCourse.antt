@@ -8,11 +8,11 @@ use Rattle.grid.specs.Grid.{cells}
 use Rattle.consistency.specs.Worklist.{Removal, State, forbids}
 use Rattle.consistency.specs.Start.{others}
 use Rattle.propagation.specs.Beside.{Beside, kept, unmarked, lessened as valued}
 use Rattle.run.specs.declared.Forbid.{Forbid}
 use Rattle.run.specs.Run.{Given, begun, reducedBy, asked, laid, laidAll, Turn, turn}
 use Rattle.run.specs.Course.{Reached, forbade, chose}
 use Rattle.run.proofs.TurnLaws.{turn-on}
-use Rattle.laws.proofs.KeptLaws.{Stays, Holds, holds-forbids, holds-propagated}
+use Rattle.consistency.proofs.KeptLaws.{Stays, Holds, holds-forbids, holds-propagated}
 
 -- it stays so whatever a run does beside the domains
 pub record Lasts (i : Given) (A : List ℕ → Beside → Type 0) : Type 0 where
