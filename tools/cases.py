@@ -59,7 +59,7 @@ def stream(call, case, off={}):
     start = numbers(case, "domains") if call == PROPAGATE else []
     slices.append([half for word in start for half in (word % 2 ** 32, word >> 32)])
     more = int(case.get("work", 0))
-    work = [4 * cells * count, cells * count, 2 * cells, 2 * cells]
+    work = [4 * cells * count, cells * count, 2 * cells, 2 * cells + (cells + 31) // 32]
     memory = [lent_domains(call, case, off), *(n + more + off.get(word, 0) for word, n in zip(MEMORY[1:], work))]
     return packed([call, count, width, height, mode, pattern, direction], slices, memory, numbers(case, "ids"))
 

@@ -50,10 +50,10 @@ fn floats_to_lend() -> [f32; 2049]
     [7.0; 2049]
 }
 
-fn marks_to_lend() -> [u8; 2049]
-    ensures { λ r. ⌜ 2049 ≡ length r ⌝ }
+fn marks_to_lend() -> [u8; 2081]
+    ensures { λ r. ⌜ 2081 ≡ length r ⌝ }
 {
-    [7; 2049]
+    [7; 2081]
 }
 
 // ---- a run
