@@ -3,10 +3,13 @@
 
 Run from the repository's root. What the streams are, crates/recorded/src/main.rt and crates/replay/src/main.rt say. Every answer is as
 recorded, but for what is left of starting domains where propagation is not refused: the greatest consistent subset, computed here from its
-definition; and for what only replay refuses."""
-from struct import pack
+definition; for what a sheet of refusals.txt says, which is taken from its bytes here; for calls with a slice of a wrong length, which are 5;
+and for what only replay refuses."""
+from struct import pack, unpack
 
-RUN, REFUSAL, PROPAGATE, LOOKUP = range(4)
+RUN, REFUSAL, PROPAGATE, LOOKUP, WRITE, READ = range(6)
+SLICES = ["weights", "offsets", "noise", "words", "forbids"]
+MEMORY = ["domains", "counts", "pending", "floats", "marks"]
 
 
 def blocks(name):
@@ -34,21 +37,35 @@ def numbers(case, word):
     return [int(n) for n in entries]
 
 
-def stream(call, case):
-    """The bytes of a call. Memory has its published length but where the case says otherwise."""
+def resized(ns, by):
+    """A slice that is lent longer or shorter."""
+    return ns + [0] * by if by >= 0 else ns[:by]
+
+
+def lent_domains(call, case, off):
+    """How many domains are lent; where a sheet is written, how many bytes."""
+    width, height, _ = numbers(case, "grid") or [0, 0, 0]
+    many = {PROPAGATE: len(numbers(case, "domains")), WRITE: int(case.get("room", 0))}
+    return many.get(call, int(case.get("outputs", width * height))) + off.get("domains", 0)
+
+
+def stream(call, case, off={}):
+    """The bytes of a call. Memory has its published length but where the case says otherwise, or `off` by how much a slice is longer."""
     (count,) = numbers(case, "patterns")
     width, height, mode = numbers(case, "grid") or [0, 0, 0]
     pattern, direction = numbers(case, "ask") or [0, 0]
     cells = width * height
-    words = ["weights", "offsets", "noise", "words", "forbids"]
-    slices = [numbers(case, word) for word in words]
+    slices = [resized(numbers(case, word), off.get(word, 0)) for word in SLICES]
     start = numbers(case, "domains") if call == PROPAGATE else []
     slices.append([half for word in start for half in (word % 2 ** 32, word >> 32)])
-    lent = len(start) if call == PROPAGATE else int(case.get("outputs", cells))
     more = int(case.get("work", 0))
-    work = [4 * cells * count + more, cells * count + more, 2 * cells + more, 2 * cells + more]
-    head = [call, count, width, height, mode, pattern, direction, *map(len, slices), lent, *work]
-    ids = numbers(case, "ids")
+    work = [4 * cells * count, cells * count, 2 * cells, 2 * cells + (cells + 31) // 32]
+    memory = [lent_domains(call, case, off), *(n + more + off.get(word, 0) for word, n in zip(MEMORY[1:], work))]
+    return packed([call, count, width, height, mode, pattern, direction], slices, memory, numbers(case, "ids"))
+
+
+def packed(scalars, slices, memory, ids):
+    head = [*scalars, *map(len, slices), *memory]
     return b"".join(pack(f"<{len(ns)}I", *ns) for ns in [head, *slices, [len(ids)]]) + bytes(ids)
 
 
@@ -84,16 +101,69 @@ def line(word, entries):
     return " ".join([word, *map(str, entries)]) + "\n"
 
 
-def told(call, case):
-    """What is printed of a call."""
+def told(call, case, off={}):
+    """What is printed of a call. A slice of another length than is published is refused as 5, and all stays as it was."""
     if call == RUN:
         return line("end", case["end"].split()) + line("domains", case["domains"].split()) + "".join(f"choice {c}\n" for c in case.get("choices", []))
-    refused = line("refused", [case["refused"]])
+    number = "5" if off else case["refused"]
+    refused = line("refused", [number])
     if call == PROPAGATE:
-        return refused + line("domains", remaining(case) if case["refused"] == "0" else numbers(case, "domains"))
+        start = resized(numbers(case, "domains"), off.get("domains", 0))
+        return refused + line("domains", remaining(case) if number == "0" else start)
     if call == LOOKUP:
-        return line("part", case["part"].split()) + refused
+        return line("part", [] if off else case["part"].split()) + refused
+    if call == WRITE:
+        room = lent_domains(call, case, off)
+        sheet = sheet_bytes(case) if number == "0" else b""
+        return refused + ("" if number != "0" else line("sheet", [sheet.hex()])) + line("stayed", [room - len(sheet)])
     return refused
+
+
+# ---- recorded: sheets that are read
+
+# how many entries are lent past a sheet's last id and its last forbid
+SPARE = [0, 0, 2, 4]
+
+
+def parsed(sheet):
+    """What the bytes of a sheet say: weights, offsets, ids, the grid, and the numbers of the forbids."""
+    payloads = []
+    while sheet:
+        size = int.from_bytes(sheet[:4], "little")
+        payloads.append(sheet[6:4 + size])
+        sheet = sheet[4 + size:]
+    (count, *weights), grid, forbids = (list(unpack(f"<{len(payloads[k]) // 2}H", payloads[k])) for k in (0, 2, 3))
+    lists, offsets, ids = payloads[1], [0], []
+    while lists:
+        ids += lists[1:1 + lists[0]]
+        offsets.append(len(ids))
+        lists = lists[1 + lists[0]:]
+    return weights, offsets, ids, grid, forbids
+
+
+def stored(case):
+    """The numbers of the forbids as a sheet has them: any keep but 0 is 1."""
+    return [n if i % 3 < 2 else min(n, 1) for i, n in enumerate(numbers(case, "forbids"))]
+
+
+def said(case):
+    """The same, as the case's own lines have it."""
+    return *(numbers(case, word) for word in ("weights", "offsets", "ids", "grid")), stored(case)
+
+
+def read(case, number, off=[0, 0, 0, 0]):
+    """The bytes of a call that reads a sheet, and what is printed of it. Where it is no sheet, memory for ids and forbids alone is lent."""
+    sheet = sheet_bytes(case)
+    weights, offsets, ids, grid, forbids = said(case) if "ids" in case else parsed(sheet) if number != 10 else [[]] * 5
+    slices = [weights, offsets, ids, forbids]
+    lent = [len(ns) + spare + more for ns, spare, more in zip(slices, SPARE, off)]
+    sizes = line("refused", [0]) + line("sizes", [len(weights), len(ids), *grid, len(forbids) // 3])
+    answer = line("refused", [10]) if number == 10 else sizes
+    if number != 0:
+        answer += line("refused", [number]) + line("stayed", lent)
+    else:
+        answer += sizes + "".join(line(*entries) for entries in zip(["weights", "offsets", "ids", "forbids"], slices)) + line("stayed", SPARE)
+    return packed([READ, 0, 0, 0, 0, 0, 0], [[]] * 6, [*lent, 0], sheet), answer
 
 
 # ---- replay: sheets with noise and words
@@ -115,11 +185,9 @@ def sheet_bytes(case):
         start, _, more = case["sheet"].partition(" * ")
         many, _, tail = more.partition(" ")
         return bytes.fromhex(start) + bytes.fromhex(tail) * int(many or 0)
-    offsets, ids, forbids = numbers(case, "offsets"), numbers(case, "ids"), numbers(case, "forbids")
-    weights = numbers(case, "weights")
+    weights, offsets, ids, grid, forbids = said(case)
     lists = b"".join(bytes([end - start, *ids[start:end]]) for start, end in zip(offsets, offsets[1:]))
-    kept = [n if i % 3 < 2 else min(n, 1) for i, n in enumerate(forbids)]
-    return (record(1, u16s([len(weights), *weights])) + record(2, lists) + record(3, u16s(numbers(case, "grid"))) + record(4, u16s(kept)))
+    return record(1, u16s([len(weights), *weights])) + record(2, lists) + record(3, u16s(grid)) + record(4, u16s(forbids))
 
 
 def result_bytes(case):
@@ -143,14 +211,17 @@ def done(case):
 
 
 def read_only(case):
-    """What a sheet without noise is answered: its refusal, or that of the noise."""
-    return u16s([TOO_LARGE if len(sheet_bytes(case)) > LONGEST else int(case["refused"]) or 5])
+    """A sheet alone, and its answer: its refusal. One that is accepted is lent noise for its one cell, and its forbids decide that."""
+    sheet, number = sheet_bytes(case), int(case["refused"])
+    if number:
+        return replayed(sheet, [], []), u16s([TOO_LARGE if len(sheet) > LONGEST else number])
+    return replayed(sheet, [1], []), u16s([0]) + record(5, u16s([0, 0]) + pack("<Q", 1))
 
 
 def replay():
     runs = [case for name in ("runs", "large", "rules_only", "sheets") for case in blocks(name)]
     cases = [(replayed(sheet_bytes(c), numbers(c, "noise"), numbers(c, "words")), done(c)) for c in runs]
-    cases += [(replayed(sheet_bytes(c), [], []), read_only(c)) for c in blocks("refusals") if c["call"] == "read"]
+    cases += [read_only(c) for c in blocks("refusals") if c["call"] == "read"]
     # words past those that a run can use are read past; so are noise words and a sheet that are more than this program has room for
     whole = next(c for c in runs if c.get("end", "2")[0] != "2" and numbers(c, "words"))
     sheet, noise, words = sheet_bytes(whole), numbers(whole, "noise"), numbers(whole, "words")
@@ -162,14 +233,39 @@ def replay():
     print(f"replay: {len(cases)} cases and one that is cut off")
 
 
-def main():
+# ---- recorded: the whole
+
+def one(name, call):
+    """The first case that is accepted and has a forbid, or starting domains, or a list that is asked for."""
+    accepted = (c for c in blocks(name) if c.get("call", call) == call and c.get("refused", "0") == "0")
+    return next(c for c in accepted if numbers(c, "forbids") or call in ("propagate", "lookup"))
+
+
+def misfits():
+    """Calls that are accepted but for one slice, in turn one entry too long and one too short: call, case, and by how much."""
+    work = {REFUSAL: ["weights", "offsets", "forbids", "noise", *MEMORY], PROPAGATE: ["offsets", *MEMORY[:3]], LOOKUP: ["offsets"],
+            WRITE: ["weights", "offsets", "forbids"]}
+    cases = {REFUSAL: one("runs", "run"), PROPAGATE: one("refusals", "propagate"), LOOKUP: one("refusals", "lookup"), WRITE: one("refusals", "write")}
+    return [(call, cases[call], {word: by}) for call, words in work.items() for word in words for by in (1, -1)]
+
+
+def recorded():
     calls = [(RUN, case) for name in ("runs", "large", "rules_only") for case in blocks(name)]
-    kinds = {"run": REFUSAL, "propagate": PROPAGATE, "lookup": LOOKUP}
+    kinds = {"run": REFUSAL, "propagate": PROPAGATE, "lookup": LOOKUP, "write": WRITE}
     calls += [(kinds[case["call"]], case) for case in blocks("refusals") if case["call"] in kinds]
-    open("crates/recorded/stdin", "wb").write(b"".join(stream(*call) for call in calls))
-    open("crates/recorded/stdout", "w").write("".join(told(*call) for call in calls))
-    print(f"recorded: {len(calls)} calls")
+    # with three bytes to spare
+    calls += [(WRITE, {**case, "refused": "0", "room": len(sheet_bytes(case)) + 3}) for case in blocks("sheets")]
+    calls += misfits()
+    cases = [(stream(*call), told(*call)) for call in calls]
+    cases += [read(case, 0) for case in blocks("sheets")]
+    cases += [read(case, int(case["refused"])) for case in blocks("refusals") if case["call"] == "read"]
+    whole = one("sheets", "read")
+    offs = [[by if k == slot else 0 for k in range(4)] for slot in range(2) for by in (1, -1)] + [[0, 0, -3, 0], [0, 0, 0, -5]]
+    cases += [read(whole, 5, off) for off in offs]
+    open("crates/recorded/stdin", "wb").write(b"".join(stream for stream, _ in cases))
+    open("crates/recorded/stdout", "w").write("".join(answer for _, answer in cases))
+    print(f"recorded: {len(cases)} calls")
 
 
-main()
+recorded()
 replay()

@@ -20,7 +20,7 @@ impl Room {
             counts: 4 * p * n,
             pending: p * n,
             floats: 2 * n,
-            marks: 2 * n,
+            marks: 2 * n + (n + 31) / 32,
         }
     }
 }

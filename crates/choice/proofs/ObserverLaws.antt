@@ -6,7 +6,7 @@ use mathlib.Core.List.{List}
 use mathlib.Core.Path.{_≡_, refl, sym, ap, _∙_}
 use Prim.Native.Nat.{ℕ, zero, suc, _+_, _-_, _≤_, _<_}
 use native.Mathlib.Decide.{decLt, ℕ-discrete}
-use native.Mathlib.Nat.{zero-add, sub-zero, le-refl, le-antisymm, le-of-suc-le-suc, lt-of-not-le}
+use native.Mathlib.Nat.{zero-add, le-refl, le-antisymm, le-of-suc-le-suc, lt-of-not-le}
 use native.Mathlib.Omega.{arith}
 use lib.Bits.{bitAnd}
 use lib.Dec.{eqb}
@@ -97,12 +97,6 @@ module _ (v : Notes) (start : ℕ) where
       let b : start + (c - start) ≡ c = omega arith in
       rw (a, b, ← e) q
 
--- the best of all cells is told by its entropy alone
-pub scan-observed : {cells : ℕ} {noise domains marks : List ℕ} {floats : List Float} (weighted : ℕ) {best b : Best} → Lengths cells noise domains floats marks
-    → best ≡ bestIn (notesIn cells noise domains floats marks weighted) 0 (cells - 0) → best ≡ b → observedAs b ≡ observe (notesIn cells noise domains floats marks weighted)
-unfolding observe
-scan-observed {cells} weighted each q is = rw (each .words, ← is) (ap observedAs (rw (sub-zero cells) at q))
-
 -- ---- what the scan finds
 
 -- cell c comes before cell d: its note is better
@@ -114,10 +108,10 @@ abbrev pub Yields : Notes → ℕ → ℕ → Type 0
 Yields v c j = countsAt v j ≡ true → (ahead v j c ≡ false) × (j < c → ahead v c j ≡ true)
 
 -- no note that counts has a NaN for its entropy
-abbrev Ordered : Notes → Type 0
+abbrev pub Ordered : Notes → Type 0
 Ordered v = (c : ℕ) → countsAt v c ≡ true → Number (entropyAt v c)
 
-ordered : (v : Notes) → Numbers (v .entropies) → length (v .counts) ≤ length (v .entropies) → Ordered v
+pub ordered : (v : Notes) → Numbers (v .entropies) → length (v .counts) ≤ length (v .entropies) → Ordered v
 ordered v numbers l c e =
     elim (decLt c (length (v .entropies))) [
       | yes h ↦ numbers .at c h
@@ -126,7 +120,7 @@ ordered v numbers l c e =
 
 -- what the run keeps has an entropy for each count
 pub lengths-each : {cells : ℕ} {noise domains marks : List ℕ} {floats : List Float} → Lengths cells noise domains floats marks → length (take cells marks) ≤ length (drop cells floats)
-lengths-each {cells} {marks = marks} {floats = floats} each = omega (arith, length-take cells marks, length-drop cells floats)
+lengths-each {cells} {marks = marks} {floats = floats} each = omega (arith, each .values, length-take cells marks, length-drop cells floats)
 
 -- the best of the first k cells is cell c
 record Picked (v : Notes) (k c : ℕ) : Type 0 where

@@ -1,2 +1,3 @@
 pub mod Observer
+pub mod Cache
 pub mod Choice

@@ -4,13 +4,14 @@ use mathlib.Core.Bool.{Bool, not, cond, _&&_}
 use mathlib.Core.List.{List}
 use mathlib.Core.Option.{Option, none, some}
 use mathlib.Core.Path.{_≡_}
-use Prim.Native.Nat.{ℕ, zero, suc, _+_, _*_, _≤_}
+use Prim.Native.Nat.{ℕ, zero, suc, _+_, _*_}
 use lib.Bits.{bitAnd}
 use lib.Dec.{leb, eqb}
 use lib.Ieee.{Float, nan}
 use lib.ListN.{length, getD, take, drop}
 use Rattle.order.specs.Order.{beats}
 use Rattle.words.specs.Words.{howMany}
+use Rattle.logarithms.specs.Blocks.{blocks}
 use Rattle.logarithms.specs.Notes.{note}
 use Rattle.logarithms.specs.declared.inner.Note.{Note}
 use Rattle.choice.specs.declared.observer.Best.{Best}
@@ -34,12 +35,12 @@ notes entropies noises counts domains mask =
 abbrev pub notesIn : ℕ → List ℕ → List ℕ → List Float → List ℕ → ℕ → Notes
 notesIn cells noise domains floats marks mask = notes (drop cells floats) noise (take cells marks) domains mask
 
--- an entry for each cell
+-- an entry for each cell; of marks two, and then one for each block
 pub record Lengths (cells : ℕ) (noise domains : List ℕ) (floats : List Float) (marks : List ℕ) : Type 0 where
   pub noises : length noise ≡ cells
   pub words : length domains ≡ cells
   pub values : length floats ≡ 2 * cells
-  pub counts : cells ≤ length marks
+  pub marked : length marks ≡ 2 * cells + blocks cells
 
 -- a note counts if its count, which is 0 for none, is how many weighted patterns the cell has now, and the cell has two patterns or more
 unfoldable pub valid : ℕ → ℕ → ℕ → Bool

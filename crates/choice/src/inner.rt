@@ -1,11 +1,14 @@
 // The steps of a run, without checks. Follows docs/RULES.md, "Run".
 ghost use mathlib.Core.Option.{some};
 ghost use mathlib.Core.Path.{_≡_};
-ghost use Prim.Native.Nat.{_<_};
+ghost use Prim.Native.Nat.{_*_, _≤_, _<_};
+ghost use lib.ListN.{length, drop};
+ghost use Rattle.order.specs.Numbers.{Numbers};
 ghost use Rattle.adjacency.specs.Weights.{Bounded, weightSum};
-ghost use Rattle.choice.specs.Observer.{Lengths, notesIn, observe};
+ghost use Rattle.choice.specs.Observer.{Lengths, notesIn, observedAs, observe};
+ghost use Rattle.choice.specs.Cache.{Fresh, recoded, forgotten};
 ghost use Rattle.choice.specs.Choice.{taken};
-use crate::observer;
+use crate::blocks;
 use crate::observer::Best;
 
 // Which cell to observe, with its entropy, or nothing.
@@ -14,21 +17,52 @@ pub enum Observed {
     Nothing,
 }
 
+// The best cell is told by its entropy alone.
+fn told(best: Best) -> Observed
+    ensures { λ r. ⌜ r ≡ observedAs best ⌝ }
+{
+    match best {
+        Best::At(cell, note) => Observed::Cell(cell, note.entropy),
+        Best::Empty => Observed::Nothing,
+    }
+}
+
 // The cell to observe: of those whose note counts, the least entropy, then the least noise word, then the least cell.
+// Only the cells of blocks whose mark is 0 are looked at; afterwards no mark of a block is.
 pub fn observe(
     cells: usize,
     noise: &[u32],
     domains: &[u64],
     floats: &[f32],
-    marks: &[u8],
+    marks: &mut [u8],
     weighted: u64,
 ) -> Observed
     requires { ⌜ Lengths cells (now noise) (now domains) (now floats) (now marks) ⌝ }
-    ensures { λ r. ⌜ r ≡ observe (notesIn cells (now (noise .entry)) (now (domains .entry)) (now (floats .entry)) (now (marks .entry)) weighted) ⌝ }
+    requires { ⌜ Numbers (drop cells (now floats)) ⌝ }
+    requires { ⌜ Fresh (notesIn cells (now noise) (now domains) (now floats) (now marks) weighted) (drop (2 * cells) (now marks)) ⌝ }
+    ensures { λ r. ⌜ (r ≡ observe (notesIn cells (now (noise .entry)) (now (domains .entry)) (now (floats .entry)) (now (marks .entry)) weighted))
+        × (now (marks .exit) ≡ recoded cells (notesIn cells (now (noise .entry)) (now (domains .entry)) (now (floats .entry)) (now (marks .entry)) weighted)
+        (now (marks .entry))) ⌝ }
 {
-    match observer::scan(cells, noise, domains, floats, marks, weighted, 0, cells) {
-        Best::At(cell, note) => Observed::Cell(cell, note.entropy),
-        Best::Empty => Observed::Nothing,
+    let mut best = Best::Empty;
+    let mut y = 0;
+    while 2 * cells + y < marks.len() {
+        let mark = blocks::renew(cells, noise, domains, floats, marks, weighted, y);
+        best = blocks::held(cells, noise, floats, marks, best, y * 32, mark);
+        y += 1;
+    }
+    told(best)
+}
+
+// The marks of the blocks 0: each block is looked at again.
+pub fn forget(cells: usize, marks: &mut [u8])
+    requires { ⌜ 2 * cells ≤ length (now marks) ⌝ }
+    ensures { λ _. ⌜ now (marks .exit) ≡ forgotten cells (now (marks .entry)) ⌝ }
+{
+    let mut i = 2 * cells;
+    while i < marks.len() {
+        marks[i] = 0;
+        i += 1;
     }
 }
 

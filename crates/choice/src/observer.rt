@@ -1,4 +1,4 @@
-// The scan behind `inner::observe`: the best cell so far, and how a further cell is held against it.
+// A look at some cells, one by one: the best cell so far, and how a further cell is held against it.
 // Follows docs/RULES.md, "Run"; stands for `Observer` of the Rust, whose heap keeps old notes too: one that no longer counts never counts again,
 // so one note for each cell decides. Main property: the cell found is the least of those whose note counts.
 ghost use mathlib.Core.Path.{_≡_};
@@ -26,7 +26,7 @@ fn valid(note: Note, word: u64, weighted: u64) -> bool
 }
 
 // The better of the best so far and a cell that comes after it: the least entropy, then the least noise word, then the earlier cell.
-fn better(best: Best, cell: usize, note: Note) -> Best
+pub(crate) fn better(best: Best, cell: usize, note: Note) -> Best
     ensures { λ r. ⌜ r ≡ join best (Best.At cell note) ⌝ }
 {
     match best {

@@ -13,6 +13,8 @@ pub mod SettledLaws
 pub mod Given
 pub mod Parts
 pub mod Cases
+pub mod MapLaws
 pub mod ForgetLaws
 pub mod FailingLaws
 pub mod WithdrawnLaws
+pub mod KeptLaws

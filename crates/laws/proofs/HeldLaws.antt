@@ -36,7 +36,7 @@ use Rattle.propagation.proofs.BesideLaws.{proposes-weight, weighted-64}
 use Rattle.choice.proofs.ObserverLaws.{valid-counts}
 use Rattle.run.proofs.TurnLaws.{turn-on}
 use Rattle.run.proofs.StateLaws.{reached-stands, reached-ready}
-use Rattle.laws.proofs.KeptLaws.{Endures, endures-forbids, endures-propagated}
+use Rattle.consistency.proofs.KeptLaws.{Endures, endures-forbids, endures-propagated}
 use Rattle.laws.proofs.StaleLaws.{weighted-sub, removed-le, reached-above, reached-one}
 
 -- ---- a weighted pattern goes

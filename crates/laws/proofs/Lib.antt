@@ -1,7 +1,5 @@
 pub mod AskedCases
 pub mod RunLaws
-pub mod KeptLaws
-pub mod KeptCourse
 pub mod SightLaws
 pub mod StaleLaws
 pub mod HeldLaws

@@ -38,7 +38,7 @@ use Rattle.choice.proofs.ObserverLaws.{valid-counts}
 use Rattle.run.proofs.TurnLaws.{turn-on}
 use Rattle.run.proofs.StateLaws.{reached-stands}
 use Rattle.run.proofs.CourseLaws.{chosen-sub}
-use Rattle.laws.proofs.KeptCourse.{Lasts, holds-reached}
+use Rattle.run.proofs.KeptCourse.{Lasts, holds-reached}
 
 -- ---- weighted counts
 

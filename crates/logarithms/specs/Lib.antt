@@ -3,3 +3,4 @@ pub mod Floor
 pub mod Entropy
 pub mod Notes
 pub mod Asked
+pub mod Blocks

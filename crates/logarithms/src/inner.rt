@@ -7,6 +7,7 @@ ghost use Rattle.refusals.specs.Refusals.{numberOf};
 ghost use Rattle.logarithms.specs.Logs.{logOf};
 ghost use Rattle.logarithms.specs.Entropy.{wLogW, plus, minus, running, less, entropy};
 ghost use Rattle.logarithms.specs.Notes.{noteOf, lowered};
+ghost use Rattle.logarithms.specs.Blocks.{blockOf, blockAt, touched};
 ghost use Rattle.logarithms.specs.Asked.{domainRefusal};
 use crate::table::LOGS;
 use refusals::Refusal;
@@ -155,4 +156,14 @@ impl Note {
             self
         }
     }
+}
+
+// ---- blocks
+
+// Something changed at a cell: what was found in its block no longer holds.
+pub fn touch(cells: usize, cell: usize, marks: &mut [u8])
+    requires { ⌜ blockAt cells (blockOf cell) < length (now marks) ⌝ }
+    ensures { λ _. ⌜ now (marks .exit) ≡ touched cells cell (now (marks .entry)) ⌝ }
+{
+    marks[2 * cells + cell / 32] = 0;
 }

@@ -4,7 +4,7 @@
 use mathlib.Core.Bool.{Bool, true, false, cond}
 use mathlib.Core.List.{List, append-nil}
 use mathlib.Core.Path.{_≡_, refl, sym, ap, _∙_}
-use Prim.Native.Nat.{ℕ, zero, suc, _+_, _-_, _^_, _≤_, _<_}
+use Prim.Native.Nat.{ℕ, zero, suc, _+_, _-_, _*_, _^_, _≤_, _<_}
 use native.Mathlib.Decide.{ℕ-discrete}
 use native.Mathlib.Numerals.{add-one}
 use native.Mathlib.Omega.{arith}
@@ -13,14 +13,14 @@ use lib.Dec.{leb}
 use lib.Ieee.{Float, nan, lt}
 use lib.ListN.{length, getD, set, take, replicate, length-set}
 use lib.Pow.{pow-mono}
-use lib.Seq.{getD-set-same, getD-set-other, take-all, take-suc-set, append-snoc}
+use lib.Seq.{getD-set-same, getD-set-other, length-take-le, take-all, take-set-lt, take-suc-set, append-snoc}
 use borrow.Author.Tests.{le-leb, leb-true}
 use Rattle.words.specs.Words.{howMany}
 use Rattle.adjacency.specs.Weights.{Weighed, weightOf, weightSum, weighted, mask}
 use Rattle.logarithms.specs.Entropy.{minus, entropy}
 use Rattle.logarithms.specs.Notes.{note, noteOf, lowered}
 use Rattle.logarithms.specs.declared.inner.Note.{Note}
-use Rattle.propagation.specs.Beside.{Beside, beside, weightedIn, lessenedBy, proposes, proposed, written, noted, proposing, unmarked}
+use Rattle.propagation.specs.Beside.{Beside, beside, besideIn, weightedIn, lessenedBy, proposes, proposed, written, noted, proposing, unmarked}
 use Rattle.propagation.specs.Lent.{Roomy}
 use Rattle.loops.proofs.TestLaws.{both}
 use Rattle.words.proofs.CountLaws.{many-width, many-none}
@@ -125,15 +125,25 @@ module _ (ws noise : List ℕ) (cells c p w : ℕ) {b : Bool} (k : b ≡ propose
 -- ---- what the start of a propagation clears
 
 module _ (floats : List Float) (marks : List ℕ) {i : ℕ} where
-  -- a turn at i
-  pub unmarked-turn : i < length marks → unmarked (i + 1) (beside floats (set marks i 0)) ≡ unmarked i (beside floats marks)
+  -- one more mark is cleared
+  unmarked-next : i < length marks → unmarked (i + 1) (beside floats (set marks i 0)) ≡ unmarked i (beside floats marks)
   unfolding unmarked
-  unmarked-turn h =
+  unmarked-next h =
       let n : length marks - i ≡ suc (length marks - suc i) = omega arith in
       rw (length-set, add-one, take-suc-set marks i 0 h, n) (ap (beside floats) (append-snoc (take i marks) 0 (replicate (length marks - suc i) 0)))
 
-  pub unmarked-end : length marks ≤ i → unmarked i (beside floats marks) ≡ beside floats marks
+  unmarked-all : length marks ≤ i → unmarked i (beside floats marks) ≡ beside floats marks
   unfolding unmarked
-  unmarked-end h =
+  unmarked-all h =
       let n : length marks - i ≡ 0 = omega arith in
       rw (n, take-all i marks h) (ap (beside floats) (append-nil _))
+
+module _ (n : ℕ) (marks : List ℕ) {i : ℕ} (long : 2 * n ≤ length marks) (floats : List Float) where
+  -- a turn at i
+  pub unmarked-turn : i < 2 * n → unmarked (i + 1) (besideIn n floats (set marks i 0)) ≡ unmarked i (besideIn n floats marks)
+  unmarked-turn h =
+      ap (λ (l : List ℕ). unmarked (i + 1) (beside floats l)) (take-set-lt (2 * n) marks i 0 h)
+      ∙ unmarked-next floats (take (2 * n) marks) (rw (length-take-le (2 * n) marks long) h)
+
+  pub unmarked-end : 2 * n ≤ i → unmarked i (besideIn n floats marks) ≡ besideIn n floats marks
+  unmarked-end h = unmarked-all floats (take (2 * n) marks) (rw (length-take-le (2 * n) marks long) h)

@@ -112,6 +112,7 @@ pub room-after : {P n : ℕ} {ws noise marks marks′ : List ℕ} {floats floats
 room-after R e k =
     record {
       weighed = R .weighed;
+      marked = rw k (R .marked);
       roomy = λ p h. let r = R .roomy p h in record { heard = r .heard; valued = e ∙ r .valued; marked = rw k (r .marked) };
     }
 

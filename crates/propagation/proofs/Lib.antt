@@ -1,5 +1,7 @@
 pub mod BesideLaws
 pub mod LentLaws
+pub mod WatchedLaws
+pub mod WatchingLaws
 pub mod PropagatorLaws
 pub mod CountLaws
 pub mod GivenLaws

@@ -21,7 +21,6 @@ use Rattle.consistency.specs.Domains.{possible, Fit}
 use Rattle.consistency.specs.Worklist.{Removal, removal, State, state, place, remove, decrementAt, decrement, decrements, spreadIn, spread, propagate, propagated}
 use Rattle.consistency.specs.Safe.{total, Safe}
 use Rattle.propagation.specs.declared.inner.Pile.{Pile}
-use Rattle.propagation.specs.Beside.{Beside, lessened, proposing, kept}
 use Rattle.propagation.specs.Supports.{lastWay, loweredAt}
 use Rattle.propagation.specs.Lent.{pendingOf, stateOf, topOf, lowered, Lent, Ground}
 use Rattle.loops.proofs.TestLaws.{both}
@@ -36,21 +35,6 @@ module _ {P n : ℕ} {D C Q : List ℕ} {pile : Pile} (L : Lent P n D C Q pile) 
       → s ≡ remove P keep (removal c p) (stateOf P D C Q pile x) → Fit P n (s .domains)
   fit-remove keep {c} {p} x hc hp h e =
       subst (λ (z : State _). Safe P n (n * P) z) (sym e) (safe-remove P n (n * P) keep (removal c p) (stateOf P D C Q pile x) hc hp h (lent-safe L x)) .fit
-
-module _ (P : ℕ) (ws noise : List ℕ) (n : ℕ) (u : Removal) where
-  -- a state whose last removal proposes
-  abbrev proposedIn : State Beside → State Beside
-  proposedIn s = state (s .counts) (s .domains) (s .pending) (s .empty) (proposing ws noise n (u .cell) (u .pattern) (getD (s .domains) (u .cell) 0) (s .beside))
-
-  -- a removal in propagation is a removal that then proposes
-  pub remove-kept : (s : State Beside) → remove P (kept ws noise n) u s ≡ proposedIn (remove P (lessened ws) u s)
-  unfolding remove kept
-  remove-kept s = refl
-
-  pub remove-proposed : (s : State Beside) {s′ : State Beside} {x : Beside} → s′ ≡ remove P (lessened ws) u s
-      → x ≡ proposing ws noise n (u .cell) (u .pattern) (getD (s′ .domains) (u .cell) 0) (s′ .beside)
-      → state (s′ .counts) (s′ .domains) (s′ .pending) (s′ .empty) x ≡ remove P (kept ws noise n) u s
-  remove-proposed s e k = rw k (ap proposedIn e ∙ sym (remove-kept s))
 
 -- ---- one support is taken; `b` is whether it was the last, and C′ the counts after it
 
@@ -141,12 +125,6 @@ module _ {t : Table} {g : Grid} {n : ℕ} (G : Ground t g n) {X : Type 0} where
 pub spread-slot : (t : Table) (g : Grid) {X : Type 0} (keep : Removal → List ℕ → X → X) (P : ℕ) (s : State X) {u v : ℕ} {s′ : State X} → u ≡ v
     → s′ ≡ spread t g keep (removal (u / P) (u % P)) s → s′ ≡ spread t g keep (removal (v / P) (v % P)) s
 spread-slot t g keep P s e k = rw e at k
-
--- ---- what is kept beside at the start
-
-pub propagated-beside : (t : Table) (g : Grid) {X : Type 0} (keep : Removal → List ℕ → X → X) (s : State X) {x : X} {s′ : State X} → s .beside ≡ x
-    → s′ ≡ propagated t g keep s → s′ ≡ propagated t g keep (state (s .counts) (s .domains) (s .pending) (s .empty) x)
-propagated-beside t g keep s e k = k ∙ ap (λ (y : _). propagated t g keep (state (s .counts) (s .domains) (s .pending) (s .empty) y)) e
 
 -- ---- the loop: while a removal is pending and no cell is empty
 

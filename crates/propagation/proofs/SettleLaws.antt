@@ -3,7 +3,7 @@
 use mathlib.Core.Bool.{Bool, true, false, true≢false}
 use mathlib.Core.List.{List, [], _∷_}
 use mathlib.Core.Path.{_≡_, refl, sym, ap, subst, _∙_}
-use Prim.Native.Nat.{ℕ, zero, suc, _*_, _≤_}
+use Prim.Native.Nat.{ℕ, zero, suc, _+_, _*_, _≤_}
 use native.Mathlib.Omega.{arith}
 use lib.Ieee.{Float}
 use lib.ListN.{length, getD, take, replicate, length-replicate}
@@ -12,6 +12,7 @@ use Rattle.refusals.specs.Refusals.{answer}
 use Rattle.adjacency.specs.Tables.{Table}
 use Rattle.adjacency.specs.Weights.{weightOf, wholeWeight, weighted, mask}
 use Rattle.grid.specs.Grid.{Grid, cells}
+use Rattle.logarithms.specs.Blocks.{blocks}
 use Rattle.consistency.specs.Domains.{Fit, emptied}
 use Rattle.consistency.specs.Worklist.{Removal, State, state, propagated}
 use Rattle.consistency.specs.Start.{startCounts, missing, reduced}
@@ -92,11 +93,12 @@ module _ (P : ℕ) where
   unfolding mask gathered
   mask-none = sum-zero (length (replicate P 0)) _ (λ p _. rw (unweighted p))
 
-  -- without weights no room is asked for
-  pub room-none : (n : ℕ) (noise : List ℕ) (floats : List Float) (marks : List ℕ) → Room P n (replicate P 0) noise floats marks
-  room-none n noise floats marks =
+  -- without weights room is asked for the marks alone
+  pub room-none : (n : ℕ) (noise : List ℕ) (floats : List Float) (marks : List ℕ) → 2 * n + blocks n ≤ length marks → Room P n (replicate P 0) noise floats marks
+  room-none n noise floats marks marked =
       record {
         weighed = record { one-each = length-replicate P 0; light = omega (arith, light) };
+        marked = marked;
         roomy = λ p e. absurd (true≢false (sym e ∙ unweighted p));
       }
 

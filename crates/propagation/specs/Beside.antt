@@ -2,7 +2,7 @@
 -- Assumes nothing.
 use mathlib.Core.Bool.{Bool, true, false, cond, _&&_}
 use mathlib.Core.List.{List, _++_}
-use Prim.Native.Nat.{ℕ, zero, suc, _+_, _-_}
+use Prim.Native.Nat.{ℕ, zero, suc, _+_, _-_, _*_}
 use lib.Bits.{bitAnd}
 use lib.Dec.{leb}
 use lib.Ieee.{Float, nan}
@@ -22,6 +22,10 @@ pub record Beside : Type 0 where
 
 abbrev pub beside : List Float → List ℕ → Beside
 beside floats marks = record { floats = floats; marks = marks }
+
+-- the same of lent slices for n cells, in which the marks of blocks stand after those of cells: they are no part of it
+abbrev pub besideIn : ℕ → List Float → List ℕ → Beside
+besideIn n floats marks = beside floats (take (2 * n) marks)
 
 -- how many weighted patterns a word has
 abbrev pub weightedIn : List ℕ → ℕ → ℕ

@@ -9,6 +9,7 @@ use Rattle.adjacency.specs.Tables.{Table}
 use Rattle.adjacency.specs.Accepted.{Accepted}
 use Rattle.adjacency.specs.Weights.{Weighed, weighted, mask}
 use Rattle.grid.specs.Grid.{Grid, cells, Sized}
+use Rattle.logarithms.specs.Blocks.{blocks}
 use Rattle.consistency.specs.Worklist.{Removal, removal, State}
 use Rattle.consistency.specs.Safe.{Safe}
 use Rattle.propagation.specs.declared.inner.Pile.{Pile}
@@ -42,11 +43,12 @@ pub record Lent (P n : ℕ) (domains counts pending : List ℕ) (pile : Pile) : 
 pub record Roomy (n : ℕ) (noise : List ℕ) (floats : List Float) (marks : List ℕ) : Type 0 where
   pub heard : length noise ≡ n
   pub valued : length floats ≡ 2 * n
-  pub marked : 2 * n ≤ length marks
+  pub marked : 2 * n + blocks n ≤ length marks
 
--- what the weights, the noise and what is kept beside must be
+-- what the weights, the noise and what is kept beside must be; every removal touches its block, with or without weight
 pub record Room (P n : ℕ) (weights noise : List ℕ) (floats : List Float) (marks : List ℕ) : Type 0 where
   pub weighed : Weighed P weights
+  pub marked : 2 * n + blocks n ≤ length marks
   pub roomy : (p : ℕ) → weighted weights p ≡ true → Roomy n noise floats marks
 
 -- the table and the grid that a propagation reads

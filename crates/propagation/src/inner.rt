@@ -11,7 +11,8 @@ ghost use Rattle.grid.specs.Grid.{grid};
 ghost use Rattle.consistency.specs.Domains.{possible};
 ghost use Rattle.consistency.specs.Worklist.{removal};
 ghost use Rattle.consistency.specs.Worklist as worklist;
-ghost use Rattle.propagation.specs.Beside.{beside, lessened, kept, unmarked};
+ghost use Rattle.logarithms.specs.Blocks.{Watched};
+ghost use Rattle.propagation.specs.Beside.{beside, besideIn, lessened, kept, unmarked};
 ghost use Rattle.propagation.specs.Lent.{stateOf, Lent, Room, Ground};
 
 pub mod start;
@@ -62,7 +63,7 @@ pub fn remove(
     }
 }
 
-// Propagates what is pending: pops until the pile is empty or a cell is.
+// Propagates what is pending: pops until the pile is empty or a cell is. Every block in which something changed is touched.
 pub fn propagate(
     count: usize,
     offsets: &[u32],
@@ -83,10 +84,12 @@ pub fn propagate(
     requires { ⌜ Lent count (length (now domains)) (now domains) (now counts) (now pending) pile ⌝ }
     requires { ⌜ Ground (table count (now offsets) (now ids)) (grid width height mode) (length (now domains)) ⌝ }
     requires { ⌜ Room count (length (now domains)) (now weights) (now noise) (now floats) (now marks) × (weighted ≡ mask (now weights)) ⌝ }
-    ensures { λ r. ⌜ stateOf count (now (domains .exit)) (now (counts .exit)) (now (pending .exit)) r (beside (now (floats .exit)) (now (marks .exit)))
+    ensures { λ r. ⌜ (stateOf count (now (domains .exit)) (now (counts .exit)) (now (pending .exit)) r
+        (besideIn (length (now (domains .entry))) (now (floats .exit)) (now (marks .exit)))
         ≡ worklist.propagated (table count (now (offsets .entry)) (now (ids .entry))) (grid width height mode) (kept (now (weights .entry)) (now (noise .entry)) (length (now (domains .entry))))
         (stateOf count (now (domains .entry)) (now (counts .entry)) (now (pending .entry)) pile
-        (unmarked (length (now (domains .entry))) (beside (now (floats .entry)) (now (marks .entry))))) ⌝ }
+        (unmarked (length (now (domains .entry))) (besideIn (length (now (domains .entry))) (now (floats .entry)) (now (marks .entry))))))
+        × Watched (length (now (domains .entry))) (now (domains .entry)) (now (floats .entry)) (now (marks .entry)) (now (domains .exit)) (now (floats .exit)) (now (marks .exit)) ⌝ }
 {
     let cells = domains.len();
     crate::notes::unmark(cells, marks);

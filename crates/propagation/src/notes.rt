@@ -2,12 +2,12 @@
 // Follows docs/RULES.md, "Propagation" and "Entropy".
 ghost use mathlib.Core.List.{List};
 ghost use mathlib.Core.Path.{_≡_};
-ghost use Prim.Native.Nat.{ℕ, _+_, _^_, _≤_, _<_};
+ghost use Prim.Native.Nat.{ℕ, _+_, _*_, _^_, _≤_, _<_};
 ghost use lib.Ieee.{Float};
-ghost use lib.ListN.{length};
+ghost use lib.ListN.{length, drop};
 ghost use Rattle.adjacency.specs.Weights.{Weighed, mask};
 ghost use Rattle.propagation.specs.Beside as meaning;
-ghost use Rattle.propagation.specs.Beside.{beside};
+ghost use Rattle.propagation.specs.Beside.{beside, besideIn};
 ghost use Rattle.propagation.specs.Lent.{Room, Roomy};
 use logarithms::inner::Note;
 
@@ -105,12 +105,14 @@ pub(crate) fn propose(
     }
 }
 
-// A propagation begins: no cell was noted in it yet.
+// A propagation begins: no cell was noted in it yet. The marks of blocks stay.
 pub(crate) fn unmark(cells: usize, marks: &mut [u8])
-    ensures { λ _. ⌜ ((floats : List Float) → beside floats (now (marks .exit)) ≡ meaning.unmarked cells (beside floats (now (marks .entry)))) ⌝ }
+    requires { ⌜ 2 * cells ≤ length (now marks) ⌝ }
+    ensures { λ _. ⌜ ((floats : List Float) → besideIn cells floats (now (marks .exit)) ≡ meaning.unmarked cells (besideIn cells floats (now (marks .entry))))
+        × (drop (2 * cells) (now (marks .exit)) ≡ drop (2 * cells) (now (marks .entry))) ⌝ }
 {
     let mut i = cells;
-    while i < marks.len() {
+    while i < 2 * cells {
         marks[i] = 0;
         i += 1;
     }

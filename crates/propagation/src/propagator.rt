@@ -9,7 +9,8 @@ ghost use Rattle.grid.specs.Grid.{grid};
 ghost use Rattle.consistency.specs.Domains.{possible};
 ghost use Rattle.consistency.specs.Worklist.{removal};
 ghost use Rattle.consistency.specs.Worklist as worklist;
-ghost use Rattle.propagation.specs.Beside.{beside, kept};
+ghost use Rattle.propagation.specs.Beside.{beside};
+ghost use Rattle.propagation.specs.Watching.{watching};
 ghost use Rattle.propagation.specs.Lent.{stateOf, topOf, lowered, Lent, Room, Ground};
 use crate::inner::Pile;
 use grid::Near;
@@ -26,7 +27,7 @@ fn slot(x: u32) -> usize
     x as usize
 }
 
-// A pattern that is possible at a cell goes, and proposes the entropy of what is left there.
+// A pattern that is possible at a cell goes, proposes the entropy of what is left there, and touches the cell's block.
 fn remove_and_propose(
     count: usize,
     weights: &[u32],
@@ -46,7 +47,7 @@ fn remove_and_propose(
     requires { ⌜ Room count cells (now weights) (now noise) (now floats) (now marks) × (weighted ≡ mask (now weights)) ⌝ }
     requires { ⌜ (cell < cells) × (pattern < count) × (possible (now domains) cell pattern ≡ 1) ⌝ }
     ensures { λ r. ⌜ stateOf count (now (domains .exit)) (now (counts .exit)) (now (pending .exit)) r (beside (now (floats .exit)) (now (marks .exit)))
-        ≡ worklist.remove count (kept (now (weights .entry)) (now (noise .entry)) cells) (removal cell pattern)
+        ≡ worklist.remove count (watching (now (weights .entry)) (now (noise .entry)) cells) (removal cell pattern)
         (stateOf count (now (domains .entry)) (now (counts .entry)) (now (pending .entry)) pile (beside (now (floats .entry)) (now (marks .entry)))) ⌝ }
 {
     let next = crate::inner::remove(
@@ -72,6 +73,7 @@ fn remove_and_propose(
         floats,
         marks,
     );
+    logarithms::inner::touch(cells, cell, marks);
     next
 }
 
@@ -96,7 +98,7 @@ fn decrement(
     requires { ⌜ Room count cells (now weights) (now noise) (now floats) (now marks) × (weighted ≡ mask (now weights)) ⌝ }
     requires { ⌜ (cell < cells) × (d < 4) × (q < count) ⌝ }
     ensures { λ r. ⌜ stateOf count (now (domains .exit)) (now (counts .exit)) (now (pending .exit)) r (beside (now (floats .exit)) (now (marks .exit)))
-        ≡ worklist.decrement count (kept (now (weights .entry)) (now (noise .entry)) cells) cell d q
+        ≡ worklist.decrement count (watching (now (weights .entry)) (now (noise .entry)) cells) cell d q
         (stateOf count (now (domains .entry)) (now (counts .entry)) (now (pending .entry)) pile (beside (now (floats .entry)) (now (marks .entry)))) ⌝ }
 {
     if crate::num_ways::try_decrement(counts, (cell * count + q) * 4 + d) {
@@ -140,7 +142,7 @@ fn decrements(
     requires { ⌜ Room count cells (now weights) (now noise) (now floats) (now marks) × (weighted ≡ mask (now weights)) ⌝ }
     requires { ⌜ (cell < cells) × (d < 4) × AllBelow count (now list) ⌝ }
     ensures { λ r. ⌜ stateOf count (now (domains .exit)) (now (counts .exit)) (now (pending .exit)) r (beside (now (floats .exit)) (now (marks .exit)))
-        ≡ worklist.decrements count (kept (now (weights .entry)) (now (noise .entry)) cells) cell d (now (list .entry))
+        ≡ worklist.decrements count (watching (now (weights .entry)) (now (noise .entry)) cells) cell d (now (list .entry))
         (stateOf count (now (domains .entry)) (now (counts .entry)) (now (pending .entry)) pile (beside (now (floats .entry)) (now (marks .entry)))) ⌝ }
 {
     let mut next = pile;
@@ -193,7 +195,7 @@ fn spread_in(
     requires { ⌜ Ground (table count (now offsets) (now ids)) (grid width height mode) cells × (cell < cells) × (p < count) × (d < 4) ⌝ }
     requires { ⌜ Room count cells (now weights) (now noise) (now floats) (now marks) × (weighted ≡ mask (now weights)) ⌝ }
     ensures { λ r. ⌜ stateOf count (now (domains .exit)) (now (counts .exit)) (now (pending .exit)) r (beside (now (floats .exit)) (now (marks .exit)))
-        ≡ worklist.spreadIn (table count (now (offsets .entry)) (now (ids .entry))) (grid width height mode) (kept (now (weights .entry)) (now (noise .entry)) cells) (removal cell p) d
+        ≡ worklist.spreadIn (table count (now (offsets .entry)) (now (ids .entry))) (grid width height mode) (watching (now (weights .entry)) (now (noise .entry)) cells) (removal cell p) d
         (stateOf count (now (domains .entry)) (now (counts .entry)) (now (pending .entry)) pile (beside (now (floats .entry)) (now (marks .entry)))) ⌝ }
 {
     let near = grid::inner::neighbour_of(width, height, mode, cell, d);
@@ -243,7 +245,7 @@ fn spread(
     requires { ⌜ Ground (table count (now offsets) (now ids)) (grid width height mode) cells × (cell < cells) × (p < count) ⌝ }
     requires { ⌜ Room count cells (now weights) (now noise) (now floats) (now marks) × (weighted ≡ mask (now weights)) ⌝ }
     ensures { λ r. ⌜ stateOf count (now (domains .exit)) (now (counts .exit)) (now (pending .exit)) r (beside (now (floats .exit)) (now (marks .exit)))
-        ≡ worklist.spread (table count (now (offsets .entry)) (now (ids .entry))) (grid width height mode) (kept (now (weights .entry)) (now (noise .entry)) cells) (removal cell p)
+        ≡ worklist.spread (table count (now (offsets .entry)) (now (ids .entry))) (grid width height mode) (watching (now (weights .entry)) (now (noise .entry)) cells) (removal cell p)
         (stateOf count (now (domains .entry)) (now (counts .entry)) (now (pending .entry)) pile (beside (now (floats .entry)) (now (marks .entry)))) ⌝ }
 {
     let mut next = pile;
@@ -298,7 +300,7 @@ pub(crate) fn pop(
     requires { ⌜ Ground (table count (now offsets) (now ids)) (grid width height mode) cells × (0 < pile .top) ⌝ }
     requires { ⌜ Room count cells (now weights) (now noise) (now floats) (now marks) × (weighted ≡ mask (now weights)) ⌝ }
     ensures { λ r. ⌜ stateOf count (now (domains .exit)) (now (counts .exit)) (now (pending .exit)) r (beside (now (floats .exit)) (now (marks .exit)))
-        ≡ worklist.spread (table count (now (offsets .entry)) (now (ids .entry))) (grid width height mode) (kept (now (weights .entry)) (now (noise .entry)) cells) (topOf count (now (pending .entry)) pile)
+        ≡ worklist.spread (table count (now (offsets .entry)) (now (ids .entry))) (grid width height mode) (watching (now (weights .entry)) (now (noise .entry)) cells) (topOf count (now (pending .entry)) pile)
         (stateOf count (now (domains .entry)) (now (counts .entry)) (now (pending .entry)) (lowered pile) (beside (now (floats .entry)) (now (marks .entry)))) ⌝ }
 {
     let top = pile.top - 1;

@@ -12,7 +12,8 @@ use crate::inner::start::zero_bytes;
 use crate::inner::start::zero_domains;
 use crate::inner::start::zero_pending;
 
-// Propagates starting domains; whether a cell was emptied. No pattern has weight, so what is lent for notes is neither read nor written.
+// Propagates starting domains; whether a cell was emptied. No pattern has weight, so no note is read or written; the marks have room for 1,024 cells
+// and their blocks.
 fn reduce(
     count: usize,
     offsets: &[u32],
@@ -33,7 +34,7 @@ fn reduce(
     let weights = [0u32; 64];
     let noise = [0u32; 1];
     let mut floats = [0.0f32; 1];
-    let mut marks = [0u8; 1];
+    let mut marks = [0u8; 2080];
     let pile = crate::inner::propagate(
         count,
         offsets,

@@ -8,14 +8,14 @@ use crate::print;
 use propagation::Propagated;
 use run::Answer;
 
-fn wide(x: u32) -> usize
+pub(crate) fn wide(x: u32) -> usize
     ensures { λ r. ⌜ r < 4294967296 ⌝ }
 {
     x as usize
 }
 
 // A length that is asked for, at most what there is.
-fn within(asked: u32, most: usize) -> usize
+pub(crate) fn within(asked: u32, most: usize) -> usize
     ensures { λ r. ⌜ r ≤ most ⌝ }
 {
     let n = wide(asked);
@@ -50,10 +50,10 @@ fn floats_to_lend() -> [f32; 2049]
     [7.0; 2049]
 }
 
-fn marks_to_lend() -> [u8; 2049]
-    ensures { λ r. ⌜ 2049 ≡ length r ⌝ }
+fn marks_to_lend() -> [u8; 2081]
+    ensures { λ r. ⌜ 2081 ≡ length r ⌝ }
 {
-    [7; 2049]
+    [7; 2081]
 }
 
 // ---- a run
@@ -421,7 +421,9 @@ fn answer(call: u32, head: &[u32; 17], numbers: &[u32], ids: &[u8]) {
         0 => run_told(true, head, forbids, weights, offsets, ids, noise, words),
         1 => run_told(false, head, forbids, weights, offsets, ids, noise, words),
         2 => propagate_told(head, offsets, ids, halves),
-        _ => list_told(head, offsets, ids),
+        3 => list_told(head, offsets, ids),
+        4 => crate::sheets::write_told(head, forbids, weights, offsets, ids),
+        _ => crate::sheets::read_told(head, ids),
     }
 }
 

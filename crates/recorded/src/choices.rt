@@ -109,8 +109,21 @@ fn choose(
         → Standing (given (table count (now (offsets .entry)) (now (ids .entry))) (now (weights .entry)) (grid width height mode) (now (noise .entry)))
         (memory (now (domains .exit)) (now (counts .exit)) (now (pending .exit)) (now (floats .exit)) (now (marks .exit)))) ⌝ }
 {
-    let weighted = adjacency::inner::weighted_mask(weights);
-    match choice::inner::observe(domains.len(), noise, domains, floats, marks, weighted) {
+    match run::inner::sight(
+        count,
+        width,
+        height,
+        mode,
+        weights,
+        offsets,
+        ids,
+        noise,
+        domains,
+        counts,
+        pending,
+        floats,
+        marks,
+    ) {
         Observed::Nothing => 13,
         Observed::Cell(cell, entropy) => {
             let pattern = pattern_at(count, weights, domains, cell, word);

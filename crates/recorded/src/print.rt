@@ -5,7 +5,7 @@ pub(crate) fn text(bytes: &[u8]) {
     io::write_all(STDOUT_FILENO, bytes);
 }
 
-fn number(n: u64) {
+pub(crate) fn number(n: u64) {
     text(b" ");
     io::print_decimal(STDOUT_FILENO, n);
 }
@@ -69,5 +69,65 @@ pub(crate) fn choice(cell: usize, entropy: f32, pattern: usize) {
     number(cell as u64);
     bits(entropy);
     number(pattern as u64);
+    text(b"\n");
+}
+
+// ---- sheets
+
+// The first `many` bytes, two hexadecimal digits each.
+pub(crate) fn sheet(bytes: &[u8; 131072], many: usize) {
+    text(b"sheet ");
+    let mut i = 0;
+    while i < 131072 {
+        if i < many {
+            io::print_hex(STDOUT_FILENO, wide(bytes[i]), 2);
+        }
+        i += 1;
+    }
+    text(b"\n");
+}
+
+// How much a sheet holds.
+pub(crate) fn sizes(
+    count: usize,
+    ids: usize,
+    width: usize,
+    height: usize,
+    mode: usize,
+    forbids: usize,
+) {
+    text(b"sizes");
+    number(count as u64);
+    number(ids as u64);
+    number(width as u64);
+    number(height as u64);
+    number(mode as u64);
+    number(forbids as u64);
+    text(b"\n");
+}
+
+// The first `many` of some numbers.
+pub(crate) fn numbers(name: &[u8], numbers: &[u32; 16384], many: usize) {
+    text(name);
+    let mut i = 0;
+    while i < 16384 {
+        if i < many {
+            number(wide_bits(numbers[i]));
+        }
+        i += 1;
+    }
+    text(b"\n");
+}
+
+// The first `many` of some ids.
+pub(crate) fn ids(ids: &[u8; 131072], many: usize) {
+    text(b"ids");
+    let mut i = 0;
+    while i < 131072 {
+        if i < many {
+            number(wide(ids[i]));
+        }
+        i += 1;
+    }
     text(b"\n");
 }

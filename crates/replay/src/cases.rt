@@ -9,29 +9,27 @@ fn cut_off() -> bool {
     false
 }
 
-// The sheet's bytes, or read past where they are too many.
+// As many of the sheet's bytes as there is room for; the rest is read past. Answers whether the input had them all.
 fn sheet_bytes(many: usize, sheet: &mut [u8]) -> bool {
-    if sheet.len() < many {
-        return input::skip(many);
+    let kept = least(many, sheet.len());
+    if !input::bytes(&mut sheet[..kept]) {
+        return false;
     }
-    input::bytes(&mut sheet[..many])
+    input::skip(many - kept)
 }
 
-// Answers a case of which all is read; noise and words of which some were read past are lent as far as they were kept.
+// Answers a case of which all is read; what was read past is left out.
 fn answer(size: usize, sheet: &[u8], noises: usize, noise: &[u32], many: usize, words: &[u32]) {
-    if sheet.len() < size {
-        crate::runs::tell(65535);
-        return;
-    }
+    let s = least(size, sheet.len());
     let n = least(noises, noise.len());
     let w = least(many, words.len());
-    crate::runs::answer(&sheet[..size], &noise[..n], &words[..w]);
+    crate::runs::answer(&sheet[..s], &noise[..n], &words[..w]);
 }
 
 // The noise, the words and the answer.
 fn rest(size: usize, sheet: &[u8]) -> bool {
     let mut noise = [0u32; 1025];
-    let mut words = [0u32; 1025];
+    let mut words = [0u32; 1024];
     let Next::Number(noises) = input::number() else {
         return cut_off();
     };
@@ -62,8 +60,8 @@ fn next_in(sheet: &mut [u8]) -> bool {
     }
 }
 
-// Answers the next case, and whether there may be another.
+// Answers the next case, and whether there may be another. A byte more than the longest sheet has says that one is too long.
 pub(crate) fn next() -> bool {
-    let mut sheet = [0u8; 41376];
+    let mut sheet = [0u8; 41377];
     next_in(&mut sheet)
 }

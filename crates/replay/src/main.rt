@@ -5,8 +5,8 @@
 //   u32 count and that many u32, the words
 // The answer is a u16, then the result's record where that is 0:
 //   0 the run is done
-//   1 to 11 the refusal's number: of the sheet, or, where that is accepted, 5 for noise that is not a word for each cell
-//   65535 too large for this program: a sheet of over 41,376 bytes, which none is that can be accepted, or cells times patterns over 4,096
+//   1 to 11 the refusal's number: of the sheet, or, where that is taken, 5 for noise that is not a word for each cell
+//   65535 too large for this program: bytes over 41,376, told first, or cells times patterns over 4,096, told after the sheet's own refusals
 // A stream that is cut off ends after the last whole case, and standard error says so.
 mod cases;
 mod input;

@@ -3,7 +3,7 @@
 use mathlib.Core.Bool.{Bool, false, not, cond, _||_}
 use mathlib.Core.List.{List, [], _∷_}
 use mathlib.Core.Path.{_≡_, refl, sym, ap, _∙_}
-use Prim.Native.Nat.{ℕ, suc, _*_, _≤_}
+use Prim.Native.Nat.{ℕ, suc, _+_, _*_, _≤_}
 use lib.Dec.{ltb, eqb}
 use lib.ListN.{length, getD}
 use borrow.Author.Tests.{eqb-true, ltb-false, leb-false, not-false}
@@ -12,6 +12,7 @@ use Rattle.adjacency.specs.Tables.{Table}
 use Rattle.adjacency.specs.Checks.{badCount, weightsMisfit, offsetsMisfit, overWeight, badList, disagree}
 use Rattle.adjacency.specs.Lookup.{badPattern}
 use Rattle.grid.specs.Grid.{Grid, cells, badSize, badWrap, badCell, Sized}
+use Rattle.logarithms.specs.Blocks.{blocks}
 use Rattle.run.specs.declared.Forbid.{Forbid}
 use Rattle.run.specs.declared.Answer.{Answer}
 use Rattle.run.specs.declared.Answer.the-variants.{Decided, Undecided, Paused, Contradiction, Refused}
@@ -45,7 +46,7 @@ granted-memory P n m e =
     let counts = not (eqb (length (m .counts)) (n * P * 4)) in
     let pending = not (eqb (length (m .pending)) (n * P)) in
     let floats = not (eqb (length (m .floats)) (2 * n)) in
-    let (d, m₅) = neither (domains || counts || pending || floats) (not (eqb (length (m .marks)) (2 * n))) e in
+    let (d, m₅) = neither (domains || counts || pending || floats) (not (eqb (length (m .marks)) (2 * n + blocks n))) e in
     let (c, m₄) = neither (domains || counts || pending) floats d in
     let (b, m₃) = neither (domains || counts) pending c in
     let (m₁, m₂) = neither domains counts b in

@@ -3,30 +3,34 @@
 use mathlib.Core.Bool.{Bool, true, false, cond}
 use mathlib.Core.List.{List, [], append-nil}
 use mathlib.Core.Path.{_≡_, refl, sym, ap, subst, _∙_}
-use Prim.Native.Nat.{ℕ, zero, suc, _+_, _≤_, _<_}
+use Prim.Native.Nat.{ℕ, zero, suc, _+_, _*_, _≤_, _<_}
 use native.Mathlib.Nat.{mul-le-mul}
 use native.Mathlib.Omega.{arith}
 use lib.Dec.{eqb}
-use lib.ListN.{length, replicate}
+use lib.ListN.{length, take, drop, replicate}
 use borrow.Author.Tests.{eq-eqb, ne-eqb}
+use Rattle.order.specs.Numbers.{Numbers}
 use Rattle.refusals.specs.declared.Refusal.{Refusal}
 use Rattle.refusals.specs.Refusals.{firstOf, Asked, refused, answer, number}
 use Rattle.grid.specs.Grid.{cells}
+use Rattle.logarithms.specs.Blocks.{blocks}
 use Rattle.consistency.specs.Worklist.{State, state}
 use Rattle.propagation.specs.declared.inner.Pile.{Pile}
-use Rattle.propagation.specs.Beside.{Beside, beside}
+use Rattle.propagation.specs.Beside.{Beside, beside, besideIn}
 use Rattle.propagation.specs.Lent.{pendingOf, stateOf, Lent, Roomy, Room, Ground}
 use Rattle.run.specs.declared.Forbid.{Forbid}
 use Rattle.run.specs.declared.Answer.the-variants.{Contradiction, Refused}
 use Rattle.run.specs.declared.collapse.Stop.{Stop}
 use Rattle.run.specs.Run.{Given, begun, asked, laid, Ended, collapse}
-use Rattle.run.specs.Course.{fullLess, wanted}
+use Rattle.run.specs.Course.{fullLess, wanted, Reached, forbade}
 use Rattle.run.specs.Called as calls
-use Rattle.run.specs.Called.{Memory, roomOf, Opened, baseTests, testsOf, forbidTests, End, answerTold, Outcome, outcome, cleared, finished}
-use Rattle.run.specs.Steps.{idle, endedAs}
+use Rattle.run.specs.Called.{Memory, memory, roomOf, Opened, baseTests, testsOf, forbidTests, End, answerTold, Outcome, outcome, cleared, finished}
+use Rattle.run.specs.Steps.{idle, Laid, endedAs}
 use Rattle.run.specs.Stages.{contradicted, standing, stateIn, stageOf, Standing, beginAt, firstBad, beginning, layAt, concluding}
 use Rattle.consistency.proofs.Settled.{Settled}
+use Rattle.order.proofs.ListLaws.{numbers-drop}
 use Rattle.propagation.proofs.LentLaws.{safe-beside}
+use Rattle.run.proofs.SoundLaws.{reached-numbers}
 use Rattle.run.proofs.StateLaws.{asked-inside, reducedBy-settled, forbade-settled}
 use Rattle.run.proofs.CourseLaws.{run-final}
 use Rattle.run.proofs.EndLaws.{end-most}
@@ -72,7 +76,7 @@ module _ (bad lent : ℕ) (i : Given) (m : Memory) {n : ℕ} (e : n ≡ firstOf 
     begin-bad y = refused-at bad y ∙ ap (λ (k : ℕ). beginAt k i m) (sym first-bad)
 
     -- without any the run begins
-    pub begin-standing : bad ≡ 0 → (m′ : Memory) → state (m′ .counts) (m′ .domains) [] false (beside (m′ .floats) (m′ .marks)) ≡ begun i
+    pub begin-standing : bad ≡ 0 → (m′ : Memory) → state (m′ .counts) (m′ .domains) [] false (besideIn (length (m′ .domains)) (m′ .floats) (m′ .marks)) ≡ begun i
         → stageOf (i .table .count) 0 m′ ≡ beginning bad lent i m
     unfolding beginning beginAt stageOf pendingOf
     begin-standing y m′ s = ap standing s ∙ ap (λ (k : ℕ). beginAt k i m) (sym (first-bad ∙ y))
@@ -104,15 +108,44 @@ module _ {i : Given} {m : Memory} (S : Standing i m) where
   pub standing-roomy : Roomy (length (m .domains)) (i .noise) (m .floats) (m .marks)
   standing-roomy =
       let M = S .measured in
-      record { heard = S .heard ∙ sym (M .domains); valued = omega (arith, M .domains, M .floats); marked = omega (arith, M .domains, M .marks) }
+      record { heard = S .heard ∙ sym (M .domains); valued = omega (arith, M .domains, M .floats); marked = rw (M .domains) (omega (arith, M .marks)) }
+
+  pub standing-marked : length (m .marks) ≡ 2 * length (m .domains) + blocks (length (m .domains))
+  standing-marked = S .measured .marks ∙ ap (λ (n : ℕ). 2 * n + blocks n) (sym (S .measured .domains))
+
+  -- no noted entropy is a NaN
+  pub standing-numbers : Numbers (drop (length (m .domains)) (m .floats))
+  standing-numbers =
+      numbers-drop (m .floats) (length (m .domains))
+      (reached-numbers i (S .laid .forbids) (S .laid .lawful) (subst (λ (s : State Beside). Reached i (S .laid .forbids) [] 0 0 s) (sym (S .laid .is)) forbade) .numbers)
+
+  -- other marks of blocks change nothing
+  pub standing-marks : (M : List ℕ) → length M ≡ length (m .marks) → take (2 * length (m .domains)) M ≡ take (2 * length (m .domains)) (m .marks)
+      → Standing i (memory (m .domains) (m .counts) (m .pending) (m .floats) M)
+  standing-marks M k e =
+      record {
+        sized = S .sized;
+        heard = S .heard;
+        measured =
+            record {
+              domains = S .measured .domains;
+              counts = S .measured .counts;
+              pending = S .measured .pending;
+              floats = S .measured .floats;
+              marks = k ∙ S .measured .marks;
+            };
+        laid =
+            subst (λ (marks : List ℕ). Laid i (stateOf (i .table .count) (m .domains) (m .counts) (m .pending) idle (beside (m .floats) marks))) (sym e)
+            (S .laid);
+      }
 
   pub standing-room : Room (i .table .count) (length (m .domains)) (i .weights) (i .noise) (m .floats) (m .marks)
-  standing-room = record { weighed = S .laid .lawful .weighed; roomy = λ _ _. standing-roomy }
+  standing-room = record { weighed = S .laid .lawful .weighed; marked = standing-roomy .marked; roomy = λ _ _. standing-roomy }
 
   -- ---- a forbid is laid
 
   module _ (f : Forbid) (hc : f .cell < length (m .domains)) (hp : f .pattern < i .table .count) (m′ : Memory) (pile : Pile)
-      (e : stateOf (i .table .count) (m′ .domains) (m′ .counts) (m′ .pending) pile (beside (m′ .floats) (m′ .marks)) ≡ laid i f (stateIn (i .table .count) m)) where
+      (e : stateOf (i .table .count) (m′ .domains) (m′ .counts) (m′ .pending) pile (besideIn (length (m′ .domains)) (m′ .floats) (m′ .marks)) ≡ laid i f (stateIn (i .table .count) m)) where
     -- where the forbid leads, which the slices m′ and the pile stand for
     abbrev after : State Beside
     after = laid i f (stateIn (i .table .count) m)
@@ -137,7 +170,7 @@ module _ {i : Given} {m : Memory} (S : Standing i m) where
     unfolding stageOf layAt
     lay-standing h =
         ap standing
-        (subst (λ (p : Pile). stateOf (i .table .count) (m′ .domains) (m′ .counts) (m′ .pending) p (beside (m′ .floats) (m′ .marks)) ≡ after)
+        (subst (λ (p : Pile). stateOf (i .table .count) (m′ .domains) (m′ .counts) (m′ .pending) p (besideIn (length (m′ .domains)) (m′ .floats) (m′ .marks)) ≡ after)
         (pile-idle (i .table .count) (m′ .pending) pile h (ap (λ (s : State Beside). s .pending) e ∙ nothing-pending h)) e)
         ∙ sym (ap (λ (b : Bool). cond b contradicted (standing after)) (after-empty h))
 

@@ -3,13 +3,14 @@
 use mathlib.Core.Bool.{false}
 use mathlib.Core.List.{List, [], _++_, append-nil}
 use mathlib.Core.Path.{_≡_, refl, sym, ap, _∙_}
-use Prim.Native.Nat.{ℕ, zero, suc, _+_, _*_, _≤_, _<_}
+use Prim.Native.Nat.{ℕ, zero, suc, _+_, _-_, _*_, _≤_, _<_}
 use native.Mathlib.Decide.{decLt}
 use native.Mathlib.Nat.{le-refl}
 use native.Mathlib.Omega.{arith}
 use lib.Bits.{and-self}
 use lib.Ieee.{Float, binary32, ofBits}
-use lib.ListN.{length, drop, replicate, replicate-append-replicate, drop-of-length-le}
+use lib.ListN.{length, take, drop, replicate, length-append, length-drop, length-replicate, replicate-append-replicate, drop-of-length-le}
+use lib.Seq.{take-append-add, take-at}
 use lib.Pow.{pow-mono}
 use borrow.Author.Tests.{le-leb, lt-leb, eq-eqb, ne-eqb}
 use Rattle.words.specs.Words.{howMany, full}
@@ -20,7 +21,7 @@ use Rattle.grid.specs.Grid.{Grid, cells}
 use Rattle.consistency.specs.Domains.{filled}
 use Rattle.consistency.specs.Worklist.{state}
 use Rattle.consistency.specs.Start.{startCounts, start}
-use Rattle.propagation.specs.Beside.{beside}
+use Rattle.propagation.specs.Beside.{beside, besideIn}
 use Rattle.run.specs.Run.{firstCount, firstEntropy, firstBeside, given, begun}
 use Rattle.run.specs.Called.{memory, Room, cleared}
 use Rattle.words.proofs.CountLaws.{many-width, many-none}
@@ -90,12 +91,31 @@ module _ {A : Type 0} where
   drop-first v zero m = refl
   drop-first v (suc n) m = drop-first v n m
 
-  -- its first half is filled again
-  pub fill-half : (u v : A) (k n : ℕ) → k ≡ 2 * n → replicate n u ++ drop n (replicate k v) ≡ replicate n u ++ replicate n v
+  -- its first part is filled again
+  pub fill-first : (u v : A) (k n : ℕ) → n ≤ k → replicate n u ++ drop n (replicate k v) ≡ replicate n u ++ replicate (k - n) v
+  fill-first u v k n h =
+      let whole : k ≡ n + (k - n) = omega (arith, h) in
+      ap (λ (l : List A). replicate n u ++ drop n l) (ap (λ (j : ℕ). replicate j v) whole ∙ sym (replicate-append-replicate n (k - n) v))
+      ∙ ap (λ (l : List A). replicate n u ++ l) (drop-first v n (k - n))
+
+  -- its first half is
+  fill-half : (u v : A) (k n : ℕ) → k ≡ 2 * n → replicate n u ++ drop n (replicate k v) ≡ replicate n u ++ replicate n v
   fill-half u v k n e =
-      let twice : k ≡ n + n = omega (arith, e) in
-      ap (λ (l : List A). replicate n u ++ drop n l) (ap (λ (j : ℕ). replicate j v) twice ∙ sym (replicate-append-replicate n n v))
-      ∙ ap (λ (l : List A). replicate n u ++ l) (drop-first v n n)
+      let rest : k - n ≡ n = omega (arith, e) in
+      fill-first u v k n (omega (arith, e)) ∙ ap (λ (j : ℕ). replicate n u ++ replicate j v) rest
+
+  take-first : (v : A) (n k : ℕ) → n ≤ k → take n (replicate k v) ≡ replicate n v
+  take-first v n k h =
+      let whole : k ≡ n + (k - n) = omega (arith, h) in
+      ap (λ (j : ℕ). take n (replicate j v)) whole ∙ ap (take n) (sym (replicate-append-replicate n (k - n) v))
+      ∙ take-at (replicate n v) (replicate (k - n) v) n (length-replicate n v)
+
+  -- what goes on past the halves is cut off
+  pub cut-halves : (u v : A) (n k : ℕ) → 2 * n ≤ k → {l : List A} → l ≡ replicate n u ++ replicate (k - n) v → take (2 * n) l ≡ replicate n u ++ replicate n v
+  cut-halves u v n k h e =
+      let two : 2 * n ≡ length (replicate n u) + n = omega (arith, length-replicate n u) in
+      ap (take (2 * n)) e ∙ ap (λ (j : ℕ). take j (replicate n u ++ replicate (k - n) v)) two
+      ∙ take-append-add (replicate n u) (replicate (k - n) v) n ∙ ap (λ (l : List A). replicate n u ++ l) (take-first v n (k - n) (omega (arith, h)))
 
   -- both in turn
   pub fill-halves : (u v : A) (n : ℕ) (l : List A) {mid end : List A} → length l ≡ 2 * n → mid ≡ replicate (length l) v ++ drop (length l) l
@@ -108,15 +128,18 @@ module _ {A : Type 0} where
 -- what the parts of the start come to
 pub begun-is : (t : Table) (ws : List ℕ) (n word number : ℕ) (D : List ℕ) {counts domains marks : List ℕ} {floats : List Float} → word ≡ full (t .count)
     → number ≡ firstCount ws → length D ≡ n → domains ≡ replicate n word ++ drop n D → counts ≡ startCounts t n
-    → floats ≡ replicate n (running ws) ++ replicate n (firstEntropy ws) → marks ≡ replicate n number ++ replicate n 0
-    → (g : Grid) (noise : List ℕ) → n ≡ cells g → state counts domains [] false (beside floats marks) ≡ begun (given t ws g noise)
+    → floats ≡ replicate n (running ws) ++ replicate n (firstEntropy ws)
+    → (k : ℕ) → 2 * n ≤ k → marks ≡ replicate n number ++ replicate (k - n) 0
+    → (g : Grid) (noise : List ℕ) → n ≡ cells g → state counts domains [] false (besideIn (length domains) floats marks) ≡ begun (given t ws g noise)
 unfolding begun start firstBeside
-begun-is t ws n word number D {counts} {domains} {marks} {floats} w m long d c f k g noise e =
+begun-is t ws n word number D {counts} {domains} {marks} {floats} w m long d c f size h k g noise e =
     let c′ : counts ≡ startCounts t (cells g) = c ∙ ap (startCounts t) e in
     let d′ : domains ≡ filled (t .count) (cells g) =
     d ∙ fill-whole word D n (omega (arith, long)) ∙ ap (λ (x : ℕ). replicate n x) w ∙ ap (λ (j : ℕ). replicate j (full (t .count))) e in
     let f′ : floats ≡ replicate (cells g) (running ws) ++ replicate (cells g) (firstEntropy ws) =
     f ∙ ap (λ (j : ℕ). replicate j (running ws) ++ replicate j (firstEntropy ws)) e in
-    let k′ : marks ≡ replicate (cells g) (firstCount ws) ++ replicate (cells g) 0 =
-    k ∙ ap (λ (x : ℕ). replicate n x ++ replicate n 0) m ∙ ap (λ (j : ℕ). replicate j (firstCount ws) ++ replicate j 0) e in
-    rw (c′, d′, f′, k′)
+    let many : length domains ≡ n =
+    omega (arith, ap length d, length-append (replicate n word) (drop n D), length-replicate n word, length-drop n D, long) in
+    let k′ : take (2 * length domains) marks ≡ replicate (cells g) (firstCount ws) ++ replicate (cells g) 0 =
+    ap (λ (j : ℕ). take (2 * j) marks) many ∙ cut-halves number 0 n size h k ∙ ap (λ (x : ℕ). replicate n x ++ replicate n 0) m ∙ ap (λ (j : ℕ). replicate j (firstCount ws) ++ replicate j 0) e in
+    (λ j. state (c′ j) (d′ j) [] false (beside (f′ j) (k′ j)))

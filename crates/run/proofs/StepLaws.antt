@@ -214,9 +214,9 @@ module _ {P n : ℕ} {D C Q : List ℕ} {pile : Pile} (L : Lent P n D C Q pile) 
 pub ground-at : {t : Table} {g : Grid} {m n : ℕ} → m ≡ n → Ground t g n → Ground t g m
 ground-at e G = record { accepted = G .accepted; sized = G .sized; all = e ∙ G .all }
 
-pub room-at : {P m n : ℕ} {ws noise marks : List ℕ} {floats floats′ : List Float} → m ≡ n → length floats′ ≡ length floats → Room P n ws noise floats marks
-    → Room P m ws noise floats′ marks
-room-at {P} {m} {n} {ws} {noise} {marks} {floats} {floats′} e f R = subst (λ (k : ℕ). Room P k ws noise floats′ marks) (sym e) (room-after R f refl)
+pub room-at : {P m n : ℕ} {ws noise marks marks′ : List ℕ} {floats floats′ : List Float} → m ≡ n → length floats′ ≡ length floats → length marks′ ≡ length marks
+    → Room P n ws noise floats marks → Room P m ws noise floats′ marks′
+room-at {P} {m} {n} {ws} {noise} {marks} {marks′} {floats} {floats′} e f k R = subst (λ (j : ℕ). Room P j ws noise floats′ marks′) (sym e) (room-after R f k)
 
 -- with the propagation of it the forbid is laid
 pub laid-is : (i : Given) (f : Forbid) (s s₁ : State Beside) {s₂ : State Beside} {n : ℕ} → n ≡ cells (i .grid)
@@ -265,7 +265,7 @@ decided-end l h inv = every-end (λ w. eqb (howMany 64 w) 1) l h inv
 
 module _ (i : Given) (words : List ℕ) (used : ℕ) (s : State Beside) {n m : ℕ} {o : Observed}
     (e : o ≡ observe (notesIn n (i .noise) (s .domains) (s .beside .floats) (s .beside .marks) m)) (all : n ≡ cells (i .grid)) (masked : m ≡ mask (i .weights)) where
-  observed-sight : sightOf o ≡ sighted i s
+  pub observed-sight : sightOf o ≡ sighted i s
   unfolding sighted notesOf
   observed-sight = rw (e, all, masked)
 
@@ -295,11 +295,19 @@ module _ (i : Given) (words : List ℕ) (used : ℕ) (s : State Beside) {n m : �
     unfolding seen drawn draw
     turn-paused q h = (rw (le-ltb used (length words) h) at (turn-sight (cell-sight q)))
 
-    pub turn-chosen : {c : ℕ} {f : Float} {s′ : State Beside} → o ≡ Cell c f → used < length words
+    turn-chosen : {c : ℕ} {f : Float} {s′ : State Beside} → o ≡ Cell c f → used < length words
         → s′ ≡ chosen i c (taken (i .weights) (getD (s .domains) c 0) (getD words used 0 % weightSum (i .weights) (getD (s .domains) c 0))) s
         → Turn.on (used + 1) s′ ≡ turn i words used s
     unfolding seen drawn draw
     turn-chosen q h k = ap (Turn.on (used + 1)) k ∙ (rw (lt-ltb used (length words) h) at (turn-sight (cell-sight q)))
+
+    -- from a state that is the same
+    pub turn-from : {s₁ : State Beside} → s₁ ≡ s → {c : ℕ} {f : Float} {s′ : State Beside} → o ≡ Cell c f → used < length words
+        → s′ ≡ chosen i c (taken (i .weights) (getD (s₁ .domains) c 0) (getD words used 0 % weightSum (i .weights) (getD (s₁ .domains) c 0))) s₁
+        → Turn.on (used + 1) s′ ≡ turn i words used s
+    turn-from e {c} q h k =
+        turn-chosen q h
+        (k ∙ ap (λ (r : State Beside). chosen i c (taken (i .weights) (getD (r .domains) c 0) (getD words used 0 % weightSum (i .weights) (getD (r .domains) c 0))) r) e)
 
     pub told-still : o ≡ Nothing → {b : Bool} → b ≡ decided (s .domains) → {t : Bool} → b ≡ t → Turn.over (ended (cond t 0 1) used (s .domains)) ≡ turn i words used s
     told-still q d k = turn-still q (sym k ∙ d)

@@ -10,20 +10,23 @@ use lib.Dec.{eqb}
 use lib.ListN.{length, replicate}
 use borrow.Author.Tests.{eq-eqb, ne-eqb}
 use Rattle.grid.specs.Grid.{cells}
+use Rattle.logarithms.specs.Blocks.{blocks}
 use Rattle.consistency.specs.Worklist.{State}
 use Rattle.consistency.specs.Safe.{Safe}
 use Rattle.propagation.specs.declared.inner.Pile.{Pile}
-use Rattle.propagation.specs.Beside.{Beside}
-use Rattle.propagation.specs.Lent.{pendingOf, Lent, Roomy}
+use Rattle.propagation.specs.Beside.{Beside, besideIn}
+use Rattle.propagation.specs.Lent.{pendingOf, stateOf, Lent, Roomy}
 use Rattle.run.specs.declared.collapse.Step.{Step}
 use Rattle.run.specs.declared.collapse.Step.the-variants.{Over, On}
 use Rattle.run.specs.declared.collapse.Stop.{Stop}
 use Rattle.run.specs.Run.{Given, Ended, ended, Turn, turn, collapse, runOf}
 use Rattle.run.specs.Course.{Reached, forbade, chose}
-use Rattle.run.specs.Steps.{idle, turnOf, stopOf, Laid, endedAs}
-use Rattle.propagation.proofs.LentLaws.{pending-length, lent-after, Memory, stateIn, Same}
+use Rattle.run.specs.Steps.{idle, turnOf, stopOf, Found, Sightly, Laid, endedAs}
+use Rattle.order.proofs.ListLaws.{numbers-drop}
+use Rattle.propagation.proofs.LentLaws.{pending-length, lent-after, Memory, Same}
 use Rattle.run.proofs.TurnLaws.{Says, turn-over, turn-on, collapse-over}
 use Rattle.run.proofs.StateLaws.{reached-stands}
+use Rattle.run.proofs.SoundLaws.{reached-numbers}
 use Rattle.run.proofs.OpenLaws.{openCells}
 use Rattle.run.proofs.CourseLaws.{chosen-fewer, reached-counted, reached-run}
 
@@ -55,11 +58,17 @@ pile-idle P Q pile e k = λ j. record { top = low j; empty = e j }
     low : pile .top ≡ 0
     low = sym (pending-length P Q (pile .top)) ∙ ap length k
 
--- the lent slices m, which were m₀, where the turns stand: at a state that the run reaches, or at its end; and as long as they were
-pub record Turns (i : Given) (words : List ℕ) (m₀ m : Memory) (stop : Stop) : Type 0 where
-  pub laid : Laid i (stateIn (i .table .count) m₀ idle)
-  pub going : stop .end ≡ 4 → (k : ℕ) × Reached i (laid .forbids) words k (stop .used) (stateIn (i .table .count) m idle)
-  pub over : (stop .end ≡ 4 → ⊥) → endedAs stop (m .domains) ≡ collapse i words (cells (i .grid) + 1) 0 (stateIn (i .table .count) m₀ idle)
+-- the state that the lent slices and a pile stand for
+abbrev pub standsIn : ℕ → Memory → Pile → State Beside
+standsIn P m pile = stateOf P (m .domains) (m .counts) (m .pending) pile (besideIn (length (m .domains)) (m .floats) (m .marks))
+
+-- the lent slices m, which were m₀, where the turns stand: at a state that the run reaches, or at its end; what the marks of blocks say is so; and as long
+-- as they were
+pub record Turns (i : Given) (words : List ℕ) (w : ℕ) (m₀ m : Memory) (stop : Stop) : Type 0 where
+  pub laid : Laid i (standsIn (i .table .count) m₀ idle)
+  pub going : stop .end ≡ 4 → (k : ℕ) × Reached i (laid .forbids) words k (stop .used) (standsIn (i .table .count) m idle)
+  pub over : (stop .end ≡ 4 → ⊥) → endedAs stop (m .domains) ≡ collapse i words (cells (i .grid) + 1) 0 (standsIn (i .table .count) m₀ idle)
+  pub found : Found (i .noise) w (m .domains) (m .floats) (m .marks)
   pub kept : Same m₀ m (Unit {0})
 
 -- what is left to do: the open cells, and the turn that ends it
@@ -72,12 +81,14 @@ unfolding runOf
 laid-run {i} words L = ap (λ (s : State Beside). collapse i words (cells (i .grid) + 1) 0 s) (L .is)
 
 -- the turns start where the forbids lead
-pub turns-start : {i : Given} {words : List ℕ} {m : Memory} → Laid i (stateIn (i .table .count) m idle) → Turns i words m m (record { end = 4; used = 0 })
-turns-start {i} {words} {m} L =
+pub turns-start : {i : Given} {words : List ℕ} {w : ℕ} {m : Memory} → Laid i (standsIn (i .table .count) m idle)
+    → Found (i .noise) w (m .domains) (m .floats) (m .marks) → Turns i words w m m (record { end = 4; used = 0 })
+turns-start {i} {words} {w} {m} L F =
     record {
       laid = L;
       going = λ _. (0, subst (λ (s : State Beside). Reached i (L .forbids) words 0 0 s) (sym (L .is)) forbade);
       over = λ n. absurd (n refl);
+      found = F;
       kept = (refl, (refl, (refl, (refl, (refl, tt)))));
     }
 
@@ -85,25 +96,35 @@ turns-start {i} {words} {m} L =
 same-after : (m₀ m m′ : Memory) {R : Type 0} → Same m₀ m (Unit {0}) → Same m m′ R → Same m₀ m′ (Unit {0})
 same-after m₀ m m′ (a, (b, (c, (d, (e, _))))) (a′, (b′, (c′, (d′, (e′, _))))) = (a′ ∙ a, (b′ ∙ b, (c′ ∙ c, (d′ ∙ d, (e′ ∙ e, tt)))))
 
-module _ {i : Given} {words : List ℕ} {m₀ m : Memory} {stop : Stop} (T : Turns i words m₀ m stop) where
+module _ {i : Given} {words : List ℕ} {w : ℕ} {m₀ m : Memory} {stop : Stop} (T : Turns i words w m₀ m stop) where
   -- what the slices must be for another turn
   pub turns-roomy : {noise : List ℕ} → Roomy (length (m₀ .domains)) noise (m₀ .floats) (m₀ .marks) → Roomy (length (m .domains)) noise (m .floats) (m .marks)
   turns-roomy R =
       let (d, (_, (_, (f, (k, _))))) = T .kept in
       record { heard = R .heard ∙ sym d; valued = omega (arith, R .valued, d, f); marked = omega (arith, R .marked, d, k) }
 
+  pub turns-sightly : stop .end ≡ 4 → length (m₀ .marks) ≡ 2 * length (m₀ .domains) + blocks (length (m₀ .domains))
+      → Sightly (i .noise) w (m .domains) (m .floats) (m .marks)
+  turns-sightly z e =
+      let (d, (_, (_, (_, (k, _))))) = T .kept in
+      record {
+        marked = k ∙ e ∙ ap (λ (n : ℕ). 2 * n + blocks n) (sym d);
+        numbers = numbers-drop (m .floats) (length (m .domains)) (reached-numbers i (T .laid .forbids) (T .laid .lawful) (T .going z .1) .numbers);
+        found = T .found;
+      }
+
   pub turns-lent : stop .end ≡ 4 → length (m₀ .domains) ≡ cells (i .grid) → Lent (i .table .count) (length (m₀ .domains)) (m₀ .domains) (m₀ .counts) (m₀ .pending) idle
       → Lent (i .table .count) (length (m .domains)) (m .domains) (m .counts) (m .pending) idle
   turns-lent z all L =
       subst (λ (n : ℕ). Lent (i .table .count) n (m .domains) (m .counts) (m .pending) idle) (sym (T .kept .0))
       (lent-after L
-      (subst (λ (n : ℕ). Safe (i .table .count) n (n * i .table .count) (stateIn (i .table .count) m idle)) (sym all)
+      (subst (λ (n : ℕ). Safe (i .table .count) n (n * i .table .count) (standsIn (i .table .count) m idle)) (sym all)
       (reached-stands i (T .laid .forbids) (T .laid .lawful) (T .going z .1) .settled .safe))
       (T .kept .1 .1 .0))
 
   -- a turn that is over at a state that is reached ends the run
   run-over : {k used : ℕ} {s : State Beside} {e : Ended} → Reached i (T .laid .forbids) words k used s → turn i words used s ≡ Turn.over e
-      → e ≡ collapse i words (cells (i .grid) + 1) 0 (stateIn (i .table .count) m₀ idle)
+      → e ≡ collapse i words (cells (i .grid) + 1) 0 (standsIn (i .table .count) m₀ idle)
   run-over {k} {used} {s} r q =
       sym (laid-run words (T .laid) ∙ reached-run i (T .laid .forbids) (T .laid .lawful) words r
       ∙ ap (λ (fuel : ℕ). collapse i words fuel used s) left ∙ collapse-over i words used s (cells (i .grid) - k) q)
@@ -116,17 +137,17 @@ module _ {i : Given} {words : List ℕ} {m₀ m : Memory} {stop : Stop} (T : Tur
   module _ (z : stop .end ≡ 4) (m′ : Memory) where
     -- what a turn comes to, from the slices m to the slices m′
     abbrev Turned : Step → Type 0
-    Turned step = turnOf step (stop .used) (stateIn (i .table .count) m′) ≡ turn i words (stop .used) (stateIn (i .table .count) m idle)
+    Turned step = turnOf step (stop .used) (standsIn (i .table .count) m′) ≡ turn i words (stop .used) (standsIn (i .table .count) m idle)
 
     -- the number of an end is neither that of a contradiction, which a turn leaves to the next, nor 4
-    ends-says : (end : ℕ) → Turned (Over end) → Says i words (stop .used) (stateIn (i .table .count) m idle) end
-    ends-says end q = turn-over i words (stop .used) (stateIn (i .table .count) m idle) (sym q) .says
+    ends-says : (end : ℕ) → Turned (Over end) → Says i words (stop .used) (standsIn (i .table .count) m idle) end
+    ends-says end q = turn-over i words (stop .used) (standsIn (i .table .count) m idle) (sym q) .says
 
     not-three : (end : ℕ) → Turned (Over end) → end ≡ 3 → ⊥
-    not-three end q f = true≢false (sym (subst (Says i words (stop .used) (stateIn (i .table .count) m idle)) f (ends-says end q)))
+    not-three end q f = true≢false (sym (subst (Says i words (stop .used) (standsIn (i .table .count) m idle)) f (ends-says end q)))
 
     not-four : (end : ℕ) → Turned (Over end) → end ≡ 4 → ⊥
-    not-four end q f = subst (Says i words (stop .used) (stateIn (i .table .count) m idle)) f (ends-says end q)
+    not-four end q f = subst (Says i words (stop .used) (standsIn (i .table .count) m idle)) f (ends-says end q)
 
     -- what is left is less
     less-by : (step : Step) → Turned step → unended (cells (i .grid)) (m′ .domains) (stopOf step (stop .used)) < openCells (cells (i .grid)) (m .domains) + 1
@@ -137,11 +158,11 @@ module _ {i : Given} {words : List ℕ} {m₀ m : Memory} {stop : Stop} (T : Tur
             → cond (eqb (cond b 3 4) 4) (openCells (cells (i .grid)) (m′ .domains) + 1) 0 < openCells (cells (i .grid)) (m .domains) + 1
         go true e = omega arith
         go false e =
-            let s = stateIn (i .table .count) m idle in
+            let s = standsIn (i .table .count) m idle in
             omega (
               arith,
               chosen-fewer i (T .laid .forbids) (T .laid .lawful) words (stop .used) s
-                  (reached-stands i (T .laid .forbids) (T .laid .lawful) (T .going z .1)) (stop .used + 1) (stateIn (i .table .count) m′ pile)
+                  (reached-stands i (T .laid .forbids) (T .laid .lawful) (T .going z .1)) (stop .used + 1) (standsIn (i .table .count) m′ pile)
                   (turn-on i words (stop .used) s (sym q)) e,
             )
 
@@ -149,27 +170,29 @@ module _ {i : Given} {words : List ℕ} {m₀ m : Memory} {stop : Stop} (T : Tur
         → unended (cells (i .grid)) (m′ .domains) stop′ < unended (cells (i .grid)) (m .domains) stop
     turns-less step q e = rw (e, eq-eqb (stop .end) 4 z) (less-by step q)
 
-    module _ {R : Type 0} (same : Same m m′ R) where
-      turns-by : (step : Step) → Turned step → Turns i words m₀ m′ (stopOf step (stop .used))
+    module _ {R : Type 0} (same : Same m m′ R) (F : Found (i .noise) w (m′ .domains) (m′ .floats) (m′ .marks)) where
+      turns-by : (step : Step) → Turned step → Turns i words w m₀ m′ (stopOf step (stop .used))
       unfolding endedAs
       turns-by (Over end) q =
           record {
             laid = T .laid;
             going = λ f. absurd (not-four end q f);
             over = λ _. rw (ne-eqb end 3 (not-three end q)) (run-over (T .going z .1) (sym q));
+            found = F;
             kept = same-after m₀ m m′ (T .kept) same;
           }
       turns-by (On pile) q = go (pile .empty) refl
         where
-          reached : Reached i (T .laid .forbids) words (suc (T .going z .0)) (stop .used + 1) (stateIn (i .table .count) m′ pile)
+          reached : Reached i (T .laid .forbids) words (suc (T .going z .0)) (stop .used + 1) (standsIn (i .table .count) m′ pile)
           reached = chose (T .going z .1) (sym q)
 
-          go : (b : Bool) → pile .empty ≡ b → Turns i words m₀ m′ (record { end = cond b 3 4; used = stop .used + 1 })
+          go : (b : Bool) → pile .empty ≡ b → Turns i words w m₀ m′ (record { end = cond b 3 4; used = stop .used + 1 })
           go true e =
               record {
                 laid = T .laid;
                 going = λ f. absurd (omega (arith, f));
-                over = λ _. run-over reached (turn-empty i words (stop .used + 1) (stateIn (i .table .count) m′ pile) e);
+                over = λ _. run-over reached (turn-empty i words (stop .used + 1) (standsIn (i .table .count) m′ pile) e);
+                found = F;
                 kept = same-after m₀ m m′ (T .kept) same;
               }
           go false e =
@@ -177,13 +200,14 @@ module _ {i : Given} {words : List ℕ} {m₀ m : Memory} {stop : Stop} (T : Tur
                 laid = T .laid;
                 going = λ _. (
                   suc (T .going z .0),
-                  subst (λ (p : Pile). Reached i (T .laid .forbids) words (suc (T .going z .0)) (stop .used + 1) (stateIn (i .table .count) m′ p))
+                  subst (λ (p : Pile). Reached i (T .laid .forbids) words (suc (T .going z .0)) (stop .used + 1) (standsIn (i .table .count) m′ p))
                       (pile-idle (i .table .count) (m′ .pending) pile e
                       (reached-stands i (T .laid .forbids) (T .laid .lawful) reached .settled .ended e)) reached,
                 );
                 over = λ n. absurd (n refl);
+                found = F;
                 kept = same-after m₀ m m′ (T .kept) same;
               }
 
-      pub turns-again : (step : Step) → Turned step → {stop′ : Stop} → stop′ ≡ stopOf step (stop .used) → Turns i words m₀ m′ stop′
-      turns-again step q e = subst (Turns i words m₀ m′) (sym e) (turns-by step q)
+      pub turns-again : (step : Step) → Turned step → {stop′ : Stop} → stop′ ≡ stopOf step (stop .used) → Turns i words w m₀ m′ stop′
+      turns-again step q e = subst (Turns i words w m₀ m′) (sym e) (turns-by step q)

@@ -13,6 +13,7 @@ use Rattle.adjacency.specs.Tables.{Table}
 use Rattle.adjacency.specs.Checks.{badCount, offsetsMisfit, weightsMisfit, overWeight, badList, disagree}
 use Rattle.adjacency.specs.Lookup.{badPattern}
 use Rattle.grid.specs.Grid.{Grid, cells, badSize, badWrap, badCell}
+use Rattle.logarithms.specs.Blocks.{blocks}
 use Rattle.run.specs.declared.Forbid.{Forbid}
 use Rattle.run.specs.declared.Answer.{Answer}
 use Rattle.run.specs.declared.Answer.the-variants.{Decided, Undecided, Paused, Contradiction, Refused}
@@ -49,7 +50,7 @@ pub record Measured (P n : ℕ) (m : Memory) : Type 0 where
   pub counts : length (m .counts) ≡ n * P * 4
   pub pending : length (m .pending) ≡ n * P
   pub floats : length (m .floats) ≡ 2 * n
-  pub marks : length (m .marks) ≡ 2 * n
+  pub marks : length (m .marks) ≡ 2 * n + blocks n
 
 -- room for what the start of a run writes
 pub record Opened (P n : ℕ) (domains counts : List ℕ) (floats : List Float) (marks : List ℕ) : Type 0 where
@@ -57,14 +58,15 @@ pub record Opened (P n : ℕ) (domains counts : List ℕ) (floats : List Float) 
   pub words : length domains ≡ n
   pub supports : length counts ≡ n * P * 4
   pub values : length floats ≡ 2 * n
-  pub notes : length marks ≡ 2 * n
+  pub notes : length marks ≡ 2 * n + blocks n
 
 -- ---- refusals
 
--- of n cells and P patterns: a word for each cell, 4P counts and P pending removals for each, two floats and two marks for each
+-- of n cells and P patterns: a word for each cell, 4P counts and P pending removals for each, two floats and two marks for each,
+-- and a mark for each block of 32 cells
 unfoldable pub badMemory : ℕ → ℕ → Room → Bool
 badMemory P n r =
-    not (eqb (r .domains) n) || not (eqb (r .counts) (n * P * 4)) || not (eqb (r .pending) (n * P)) || not (eqb (r .floats) (2 * n)) || not (eqb (r .marks) (2 * n))
+    not (eqb (r .domains) n) || not (eqb (r .counts) (n * P * 4)) || not (eqb (r .pending) (n * P)) || not (eqb (r .floats) (2 * n)) || not (eqb (r .marks) (2 * n + blocks n))
 
 -- a lent slice has not its published length, or there are over 4,096 forbids
 unfoldable pub badLengths : ℕ → ℕ → List ℕ → List ℕ → List ℕ → ℕ → Room → Bool

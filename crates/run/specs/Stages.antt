@@ -9,7 +9,7 @@ use lib.ListN.{length, replicate}
 use Rattle.refusals.specs.Refusals.{firstOf, refused}
 use Rattle.grid.specs.Grid.{cells, Sized}
 use Rattle.consistency.specs.Worklist.{State}
-use Rattle.propagation.specs.Beside.{Beside, beside}
+use Rattle.propagation.specs.Beside.{Beside, besideIn}
 use Rattle.propagation.specs.Lent.{stateOf}
 use Rattle.run.specs.declared.Forbid.{Forbid}
 use Rattle.run.specs.Run.{Given, begun, laid, ended, collapse}
@@ -24,7 +24,7 @@ pub data Stage : Type 0 where
 
 -- the state that the lent slices stand for while nothing is pending
 abbrev pub stateIn : ℕ → Memory → State Beside
-stateIn P m = stateOf P (m .domains) (m .counts) (m .pending) idle (beside (m .floats) (m .marks))
+stateIn P m = stateOf P (m .domains) (m .counts) (m .pending) idle (besideIn (length (m .domains)) (m .floats) (m .marks))
 
 -- the stage that a code and the lent slices stand for: 0 while the run goes on, 12 after a contradiction, a refusal's number otherwise
 unfoldable pub stageOf : ℕ → ℕ → Memory → Stage

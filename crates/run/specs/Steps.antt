@@ -3,9 +3,12 @@
 use mathlib.Core.Bool.{false, cond}
 use mathlib.Core.List.{List}
 use mathlib.Core.Path.{_≡_}
-use Prim.Native.Nat.{ℕ, _+_}
+use Prim.Native.Nat.{ℕ, _+_, _*_}
 use lib.Dec.{eqb}
-use lib.ListN.{length, replicate}
+use lib.Ieee.{Float}
+use lib.ListN.{length, drop, replicate}
+use Rattle.order.specs.Numbers.{Numbers}
+use Rattle.logarithms.specs.Blocks.{blocks}
 use Rattle.propagation.specs.declared.inner.Pile.{Pile}
 use Rattle.run.specs.declared.Forbid.{Forbid}
 use Rattle.run.specs.declared.collapse.Step.{Step}
@@ -13,6 +16,8 @@ use Rattle.run.specs.declared.collapse.Step.the-variants.{Over, On}
 use Rattle.run.specs.declared.collapse.Stop.{Stop}
 use Rattle.consistency.specs.Worklist.{State}
 use Rattle.propagation.specs.Beside.{Beside}
+use Rattle.choice.specs.Observer.{notesIn}
+use Rattle.choice.specs.Cache.{Fresh}
 use Rattle.run.specs.Run.{Given, begun, laidAll, Ended, ended, Turn}
 use Rattle.run.specs.Course.{Lawful}
 
@@ -33,6 +38,18 @@ turnOf (On pile) used state = Turn.on (used + 1) (state pile)
 abbrev pub stopOf : Step → ℕ → Stop
 stopOf (Over end) used = record { end = end; used = used }
 stopOf (On pile) used = record { end = cond (pile .empty) 3 4; used = used + 1 }
+
+-- over the noise words and the word of the weighted patterns
+module _ (noise : List ℕ) (mask : ℕ) where
+  -- what the marks of blocks say of the cells is so, or they say nothing
+  abbrev pub Found : List ℕ → List Float → List ℕ → Type 0
+  Found D floats marks = Fresh (notesIn (length D) noise D floats marks mask) (drop (2 * length D) marks)
+
+  -- what the observer needs of the slices
+  pub record Sightly (D : List ℕ) (floats : List Float) (marks : List ℕ) : Type 0 where
+    pub marked : length marks ≡ 2 * length D + blocks (length D)
+    pub numbers : Numbers (drop (length D) floats)
+    pub found : Found D floats marks
 
 -- the state is where some forbids lead
 pub record Laid (i : Given) (s : State Beside) : Type 0 where

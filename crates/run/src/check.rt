@@ -36,7 +36,7 @@ fn bad_memory(
     if floats != 2 * cells {
         return true;
     }
-    marks != 2 * cells
+    marks != 2 * cells + (cells + 31) / 32
 }
 
 // Whether a lent slice has not its published length, or there are over 4,096 forbids.

@@ -1,18 +1,19 @@
 // The turns of a run: a choice at the cell that is observed, with the word that comes next, until nothing is observed, no word is left or a cell is empty.
 // Follows docs/RULES.md, "Run".
 ghost use mathlib.Core.Path.{_≡_};
-ghost use Prim.Native.Nat.{_+_, _%_, _<_};
+ghost use Prim.Native.Nat.{_+_, _*_, _%_, _<_};
 ghost use lib.ListN.{length, getD};
 ghost use Rattle.adjacency.specs.Tables.{table};
 ghost use Rattle.adjacency.specs.Weights.{Weighed, mask, weightSum};
 ghost use Rattle.grid.specs.Grid.{grid, cells};
-ghost use Rattle.propagation.specs.Beside.{beside};
+ghost use Rattle.logarithms.specs.Blocks.{blocks, Watched};
+ghost use Rattle.propagation.specs.Beside.{besideIn};
 ghost use Rattle.propagation.specs.Lent.{stateOf, Lent, Room, Roomy, Ground};
 ghost use Rattle.run.specs.declared.collapse.Step.{Step};
 ghost use Rattle.choice.specs.Choice.{taken};
 ghost use Rattle.run.specs.Run as run;
 ghost use Rattle.run.specs.Run.{given};
-ghost use Rattle.run.specs.Steps.{idle, turnOf, stopOf, Laid, endedAs};
+ghost use Rattle.run.specs.Steps.{idle, turnOf, stopOf, Found, Sightly, Laid, endedAs};
 use choice::inner::Observed;
 use propagation::inner::Pile;
 
@@ -65,10 +66,11 @@ fn choose_at(
     requires { ⌜ Ground (table count (now offsets) (now ids)) (grid width height mode) (length (now domains)) ⌝ }
     requires { ⌜ Room count (length (now domains)) (now weights) (now noise) (now floats) (now marks) × (weighted ≡ mask (now weights)) ⌝ }
     requires { ⌜ (cell < length (now domains)) × (0 < weightSum (now weights) (getD (now domains) cell 0)) ⌝ }
-    ensures { λ r. ⌜ stateOf count (now (domains .exit)) (now (counts .exit)) (now (pending .exit)) r (beside (now (floats .exit)) (now (marks .exit)))
+    ensures { λ r. ⌜ (stateOf count (now (domains .exit)) (now (counts .exit)) (now (pending .exit)) r (besideIn (length (now (domains .exit))) (now (floats .exit)) (now (marks .exit)))
         ≡ run.chosen (given (table count (now (offsets .entry)) (now (ids .entry))) (now (weights .entry)) (grid width height mode) (now (noise .entry))) cell
         (taken (now (weights .entry)) (getD (now (domains .entry)) cell 0) (word % weightSum (now (weights .entry)) (getD (now (domains .entry)) cell 0)))
-        (stateOf count (now (domains .entry)) (now (counts .entry)) (now (pending .entry)) idle (beside (now (floats .entry)) (now (marks .entry)))) ⌝ }
+        (stateOf count (now (domains .entry)) (now (counts .entry)) (now (pending .entry)) idle (besideIn (length (now (domains .entry))) (now (floats .entry)) (now (marks .entry)))))
+        × Watched (length (now (domains .entry))) (now (domains .entry)) (now (floats .entry)) (now (marks .entry)) (now (domains .exit)) (now (floats .exit)) (now (marks .exit)) ⌝ }
 {
     let domain = domains[cell];
     let sum = adjacency::inner::weight_sum(weights, domain);
@@ -116,9 +118,11 @@ fn turn(
     requires { ⌜ Lent count (length (now domains)) (now domains) (now counts) (now pending) idle ⌝ }
     requires { ⌜ Ground (table count (now offsets) (now ids)) (grid width height mode) (length (now domains)) ⌝ }
     requires { ⌜ Weighed count (now weights) × Roomy (length (now domains)) (now noise) (now floats) (now marks) × (weighted ≡ mask (now weights)) ⌝ }
-    ensures { λ r. ⌜ turnOf r used (λ pile. stateOf count (now (domains .exit)) (now (counts .exit)) (now (pending .exit)) pile (beside (now (floats .exit)) (now (marks .exit))))
+    requires { ⌜ Sightly (now noise) weighted (now domains) (now floats) (now marks) ⌝ }
+    ensures { λ r. ⌜ (turnOf r used (λ pile. stateOf count (now (domains .exit)) (now (counts .exit)) (now (pending .exit)) pile (besideIn (length (now (domains .exit))) (now (floats .exit)) (now (marks .exit))))
         ≡ run.turn (given (table count (now (offsets .entry)) (now (ids .entry))) (now (weights .entry)) (grid width height mode) (now (noise .entry))) (now (words .entry)) used
-        (stateOf count (now (domains .entry)) (now (counts .entry)) (now (pending .entry)) idle (beside (now (floats .entry)) (now (marks .entry)))) ⌝ }
+        (stateOf count (now (domains .entry)) (now (counts .entry)) (now (pending .entry)) idle (besideIn (length (now (domains .entry))) (now (floats .entry)) (now (marks .entry)))))
+        × Found (now (noise .entry)) weighted (now (domains .exit)) (now (floats .exit)) (now (marks .exit)) ⌝ }
 {
     match choice::inner::observe(domains.len(), noise, domains, floats, marks, weighted) {
         Observed::Nothing => {
@@ -175,10 +179,12 @@ fn advance(
     requires { ⌜ Lent count (length (now domains)) (now domains) (now counts) (now pending) idle ⌝ }
     requires { ⌜ Ground (table count (now offsets) (now ids)) (grid width height mode) (length (now domains)) ⌝ }
     requires { ⌜ Weighed count (now weights) × Roomy (length (now domains)) (now noise) (now floats) (now marks) × (weighted ≡ mask (now weights)) ⌝ }
+    requires { ⌜ Sightly (now noise) weighted (now domains) (now floats) (now marks) ⌝ }
     ensures { λ r. ⌜ ((step : Step) × (r ≡ stopOf step used)
-        × (turnOf step used (λ pile. stateOf count (now (domains .exit)) (now (counts .exit)) (now (pending .exit)) pile (beside (now (floats .exit)) (now (marks .exit))))
+        × (turnOf step used (λ pile. stateOf count (now (domains .exit)) (now (counts .exit)) (now (pending .exit)) pile (besideIn (length (now (domains .exit))) (now (floats .exit)) (now (marks .exit))))
         ≡ run.turn (given (table count (now (offsets .entry)) (now (ids .entry))) (now (weights .entry)) (grid width height mode) (now (noise .entry))) (now (words .entry)) used
-        (stateOf count (now (domains .entry)) (now (counts .entry)) (now (pending .entry)) idle (beside (now (floats .entry)) (now (marks .entry)))))) ⌝ }
+        (stateOf count (now (domains .entry)) (now (counts .entry)) (now (pending .entry)) idle (besideIn (length (now (domains .entry))) (now (floats .entry)) (now (marks .entry)))))
+        × Found (now (noise .entry)) weighted (now (domains .exit)) (now (floats .exit)) (now (marks .exit))) ⌝ }
 {
     match turn(
         count,
@@ -218,7 +224,7 @@ fn advance(
 }
 
 // Turn by turn to the run's end, from slices as some forbids leave them, with nothing pending and no empty cell.
-// After a contradiction the domains are those where a cell was emptied; the caller writes them as zero.
+// After a contradiction the domains are those where a cell was emptied; the caller writes them as zero. No block was looked at before the first turn.
 pub(crate) fn collapse(
     count: usize,
     offsets: &[u32],
@@ -239,12 +245,14 @@ pub(crate) fn collapse(
     requires { ⌜ Lent count (length (now domains)) (now domains) (now counts) (now pending) idle ⌝ }
     requires { ⌜ Ground (table count (now offsets) (now ids)) (grid width height mode) (length (now domains)) ⌝ }
     requires { ⌜ Weighed count (now weights) × Roomy (length (now domains)) (now noise) (now floats) (now marks) × (weighted ≡ mask (now weights)) ⌝ }
+    requires { ⌜ length (now marks) ≡ 2 * length (now domains) + blocks (length (now domains)) ⌝ }
     requires { ⌜ Laid (given (table count (now offsets) (now ids)) (now weights) (grid width height mode) (now noise))
-        (stateOf count (now domains) (now counts) (now pending) idle (beside (now floats) (now marks))) ⌝ }
+        (stateOf count (now domains) (now counts) (now pending) idle (besideIn (length (now domains)) (now floats) (now marks))) ⌝ }
     ensures { λ r. ⌜ endedAs r (now (domains .exit))
         ≡ run.collapse (given (table count (now (offsets .entry)) (now (ids .entry))) (now (weights .entry)) (grid width height mode) (now (noise .entry))) (now (words .entry)) (cells (grid width height mode) + 1) 0
-        (stateOf count (now (domains .entry)) (now (counts .entry)) (now (pending .entry)) idle (beside (now (floats .entry)) (now (marks .entry)))) ⌝ }
+        (stateOf count (now (domains .entry)) (now (counts .entry)) (now (pending .entry)) idle (besideIn (length (now (domains .entry))) (now (floats .entry)) (now (marks .entry)))) ⌝ }
 {
+    choice::inner::forget(domains.len(), marks);
     let mut stop = Stop { end: 4, used: 0 };
     while stop.end == 4 {
         stop = advance(

@@ -8,11 +8,13 @@ ghost use lib.ListN.{length};
 ghost use Rattle.refusals.specs.Refusals.{firstOf, answer};
 ghost use Rattle.adjacency.specs.Tables.{table};
 ghost use Rattle.grid.specs.Grid.{grid};
-ghost use Rattle.run.specs.Run.{given};
+ghost use Rattle.choice.specs.Observer.{sightOf};
+ghost use Rattle.run.specs.Run.{given, sighted};
 ghost use Rattle.run.specs.Called.{forbidTests, forbidsOf, recordsIn, memory, outcome, answerTold};
 ghost use Rattle.run.specs.Steps.{asking};
 ghost use Rattle.run.specs.Stages.{stateIn, stageOf, standing, Standing, beginning, layAt, concluding, Concluded};
 use crate::Answer;
+use choice::inner::Observed;
 
 // Every refusal in order, of which `bad` is that of the forbids; or the run begins.
 pub fn begin(
@@ -123,6 +125,39 @@ pub fn lay_one(
         return 12;
     }
     0
+}
+
+// What the run observes where it stands, with nothing known of any block. A run's own turns look only where something changed.
+pub fn sight(
+    count: usize,
+    width: usize,
+    height: usize,
+    mode: usize,
+    weights: &[u32],
+    offsets: &[u32],
+    ids: &[u8],
+    noise: &[u32],
+    domains: &mut [u64],
+    counts: &mut [u8],
+    pending: &mut [u32],
+    floats: &mut [f32],
+    marks: &mut [u8],
+) -> Observed
+    requires { ⌜ Standing (given (table count (now offsets) (now ids)) (now weights) (grid width height mode) (now noise)) (memory (now domains) (now counts) (now pending) (now floats) (now marks)) ⌝ }
+    ensures { λ r. ⌜ (sightOf r ≡ sighted (given (table count (now (offsets .entry)) (now (ids .entry))) (now (weights .entry)) (grid width height mode) (now (noise .entry)))
+        (stateIn count (memory (now (domains .entry)) (now (counts .entry)) (now (pending .entry)) (now (floats .entry)) (now (marks .entry)))))
+        × Standing (given (table count (now (offsets .entry)) (now (ids .entry))) (now (weights .entry)) (grid width height mode) (now (noise .entry)))
+        (memory (now (domains .exit)) (now (counts .exit)) (now (pending .exit)) (now (floats .exit)) (now (marks .exit))) ⌝ }
+{
+    choice::inner::forget(domains.len(), marks);
+    choice::inner::observe(
+        domains.len(),
+        noise,
+        domains,
+        floats,
+        marks,
+        adjacency::inner::weighted_mask(weights),
+    )
 }
 
 // What comes after the forbids: the turns, the answer, and the work memory zero. Refused, nothing is written.

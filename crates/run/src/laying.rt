@@ -10,7 +10,8 @@ ghost use Rattle.adjacency.specs.Weights.{Weighed, weighted, mask};
 ghost use Rattle.grid.specs.Grid.{grid};
 ghost use Rattle.consistency.specs.Worklist.{removal, forbids};
 ghost use Rattle.consistency.specs.Start.{others};
-ghost use Rattle.propagation.specs.Beside.{beside, lessened};
+ghost use Rattle.logarithms.specs.Blocks.{Watched};
+ghost use Rattle.propagation.specs.Beside.{beside, besideIn, lessened};
 ghost use Rattle.propagation.specs.Lent.{stateOf, Lent, Room, Ground};
 ghost use Rattle.run.specs.Run.{asked, laid};
 ghost use Rattle.run.specs.Run.{given};
@@ -136,7 +137,7 @@ fn strike(
     )
 }
 
-// Lays a forbid, from slices with nothing pending and no empty cell: what it asks for goes, and that is propagated.
+// Lays a forbid, from slices with nothing pending and no empty cell: what it asks for goes, and that is propagated. Every block in which something changes is touched.
 pub(crate) fn lay(
     count: usize,
     offsets: &[u32],
@@ -160,10 +161,12 @@ pub(crate) fn lay(
     requires { ⌜ Ground (table count (now offsets) (now ids)) (grid width height mode) (length (now domains)) ⌝ }
     requires { ⌜ Room count (length (now domains)) (now weights) (now noise) (now floats) (now marks) × (weighted ≡ mask (now weights)) ⌝ }
     requires { ⌜ (cell < length (now domains)) × (pattern < count) ⌝ }
-    ensures { λ r. ⌜ stateOf count (now (domains .exit)) (now (counts .exit)) (now (pending .exit)) r (beside (now (floats .exit)) (now (marks .exit)))
+    ensures { λ r. ⌜ (stateOf count (now (domains .exit)) (now (counts .exit)) (now (pending .exit)) r (besideIn (length (now (domains .exit))) (now (floats .exit)) (now (marks .exit)))
         ≡ laid (given (table count (now (offsets .entry)) (now (ids .entry))) (now (weights .entry)) (grid width height mode) (now (noise .entry))) (asking cell pattern keep)
-        (stateOf count (now (domains .entry)) (now (counts .entry)) (now (pending .entry)) idle (beside (now (floats .entry)) (now (marks .entry)))) ⌝ }
+        (stateOf count (now (domains .entry)) (now (counts .entry)) (now (pending .entry)) idle (besideIn (length (now (domains .entry))) (now (floats .entry)) (now (marks .entry)))))
+        × Watched (length (now (domains .entry))) (now (domains .entry)) (now (floats .entry)) (now (marks .entry)) (now (domains .exit)) (now (floats .exit)) (now (marks .exit)) ⌝ }
 {
+    logarithms::inner::touch(domains.len(), cell, marks);
     let pile = strike(
         count,
         weights,

@@ -2,7 +2,7 @@
 ghost use mathlib.Core.Bool.{false, cond};
 ghost use mathlib.Core.List.{List, [], _++_};
 ghost use mathlib.Core.Path.{_≡_};
-ghost use Prim.Native.Nat.{ℕ, _*_, _≤_, _<_};
+ghost use Prim.Native.Nat.{ℕ, _-_, _*_, _≤_, _<_};
 ghost use lib.ListN.{length, drop, replicate};
 ghost use Rattle.adjacency.specs.Tables.{table};
 ghost use Rattle.adjacency.specs.Accepted.{Accepted};
@@ -11,7 +11,7 @@ ghost use Rattle.grid.specs.Grid.{Grid};
 ghost use Rattle.grid.specs.Grid as grids;
 ghost use Rattle.logarithms.specs.Entropy.{running};
 ghost use Rattle.consistency.specs.Worklist.{state};
-ghost use Rattle.propagation.specs.Beside.{beside};
+ghost use Rattle.propagation.specs.Beside.{besideIn};
 ghost use Rattle.run.specs.Run.{firstCount, firstEntropy, given, begun};
 ghost use Rattle.run.specs.Called.{Opened, memory, room, cleared};
 use propagation::inner::start::start_counts;
@@ -124,10 +124,10 @@ fn begin_floats(count: usize, weights: &[u32], weighted: u64, cells: usize, floa
     fill_floats(cells, value, floats);
 }
 
-// A count for each cell's note, then zero for each: no cell was noted yet.
+// A count for each cell's note, then zero: no cell was noted yet, and no block was looked at.
 fn begin_marks(number: u8, cells: usize, marks: &mut [u8])
-    requires { ⌜ length (now marks) ≡ 2 * cells ⌝ }
-    ensures { λ _. ⌜ now (marks .exit) ≡ replicate cells number ++ replicate cells 0 ⌝ }
+    requires { ⌜ cells ≤ length (now marks) ⌝ }
+    ensures { λ _. ⌜ now (marks .exit) ≡ replicate cells number ++ replicate (length (now (marks .entry)) - cells) 0 ⌝ }
 {
     zero_bytes(marks);
     fill_marks(cells, number, marks);
@@ -149,7 +149,7 @@ pub(crate) fn begin_state(
     requires { ⌜ Accepted (table count (now offsets) (now ids)) × Weighed count (now weights) × (weighted ≡ mask (now weights)) ⌝ }
     requires { ⌜ Opened count cells (now domains) (now counts) (now floats) (now marks) ⌝ }
     ensures { λ _. ⌜ ((g : Grid) (noise : List ℕ) → cells ≡ grids.cells g
-        → state (now (counts .exit)) (now (domains .exit)) [] false (beside (now (floats .exit)) (now (marks .exit)))
+        → state (now (counts .exit)) (now (domains .exit)) [] false (besideIn (length (now (domains .exit))) (now (floats .exit)) (now (marks .exit)))
         ≡ begun (given (table count (now (offsets .entry)) (now (ids .entry))) (now (weights .entry)) g noise)) ⌝ }
 {
     fill_domains(cells, words::inner::full_word(count), domains);

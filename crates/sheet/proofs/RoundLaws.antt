@@ -1,25 +1,22 @@
 -- Through the calls and back: what was written is read, what was read is written, and how long a sheet can be. Follows docs/RULES.md, "Sheet".
 -- Assumes nothing.
 use mathlib.Core.Bool.{Bool, true, false, not, _||_}
-use mathlib.Core.List.{List, [], _∷_}
+use mathlib.Core.List.{List, _∷_}
 use mathlib.Core.Path.{_≡_, refl, sym, ap, _∙_}
 use Prim.Native.Nat.{ℕ, zero, suc, _+_, _*_, _/_, _%_, _≤_}
 use native.Mathlib.Nat.{le-refl}
 use native.Mathlib.Omega.{arith}
 use lib.Dec.{ltb, eqb}
 use lib.ListN.{length}
-use borrow.Author.Tests.{le-ltb, lt-leb, eq-eqb, ne-eqb, not-false, eqb-true}
+use borrow.Author.Tests.{le-ltb, eq-eqb, not-false, eqb-true}
 use Rattle.records.specs.Laying.{over}
 use Rattle.records.specs.Records.{payloadOf}
 use Rattle.refusals.specs.declared.Refusal.the-variants.{BadWeights, BadList, Disagree}
 use Rattle.refusals.specs.Refusals.{Test, _gives_, firstOf, answer}
 use Rattle.adjacency.specs.Tables.{Table, table}
 use Rattle.adjacency.specs.Checks.{weightsMisfit, overWeight, badList, disagree}
-use Rattle.adjacency.specs.Lookup.{badPattern}
-use Rattle.grid.specs.Grid.{Grid, cells, badSide, badSize, badWrap, Sized}
-use Rattle.run.specs.declared.Forbid.{Forbid}
-use Rattle.run.specs.Course.{Placed}
-use Rattle.run.specs.Called.{placeTests, forbidTests, forbidsOf, recordsIn}
+use Rattle.grid.specs.Grid.{Grid}
+use Rattle.run.specs.Called.{recordsIn}
 use Rattle.layout.specs.Sheet.{Sheet, sheet, bytesOf, listBytes}
 use Rattle.layout.specs.Tables.{tableOf, listsFrom, listsOf, joined, stored, sheetFor}
 use Rattle.layout.specs.Reading.{fromLists, fromForbids, countIn, wellFormed, sheetIn, kindsFit}
@@ -29,10 +26,8 @@ use Rattle.sheet.specs.Storable.{Storable}
 use Rattle.records.proofs.RecordLaws.{Bytes}
 use Rattle.records.proofs.LayingLaws.{over-whole}
 use Rattle.loops.proofs.TestLaws.{neither}
-use Rattle.refusals.proofs.RefusalLaws.{Passed, first-passed, passed-first, first-next}
-use Rattle.adjacency.proofs.WeightLaws.{weighed-good}
-use Rattle.adjacency.proofs.AcceptedLaws.{accepted-complete, long-good}
-use Rattle.grid.proofs.GridLaws.{cell-inside}
+use Rattle.refusals.proofs.RefusalLaws.{first-passed, passed-first, first-next}
+use Rattle.adjacency.proofs.AcceptedLaws.{long-good}
 use Rattle.layout.proofs.ShapeLaws.{Formed, formed}
 use Rattle.layout.proofs.ReadingLaws.{count-is, ids-is, listsIn-length, offsets-many, forbids-bytes}
 use Rattle.layout.proofs.WritingLaws.{fitting-size, ids-most, bytes-size, stored-three}
@@ -228,50 +223,18 @@ module _ (b : List ℕ) (bytes : Bytes b) (l : Lent) (accepted : firstOf (readTe
       ap (λ (n : ℕ). writeAt n (sheetFor (tableOf s) (s .weights) (s .grid) (s .forbids)) out) passes
       ∙ ap (λ (x : List ℕ). writeOutcome (answer (length x)) (over x out)) (ap bytesOf sheet-read ∙ bytes-read)
 
+  -- what is read can be stored
+  pub read-storable : Storable (tableOf (sheetIn b)) (sheetIn b .weights) (sheetIn b .grid) (sheetIn b .forbids)
+  read-storable =
+      let s = sheetIn b in
+      let (scalars, content) = read-passed in
+      storable (tableOf s) (s .weights) (s .grid) (s .forbids) (length b) scalars (fits-written (length b) (le-refl (length b))) content .0
+
   -- the longest sheet that is accepted
   pub read-longest : length b ≤ 41376
   read-longest =
       let s = sheetIn b in
-      let (scalars, content) = read-passed in
-      let (S, room) = storable (tableOf s) (s .weights) (s .grid) (s .forbids) (length b) scalars (fits-written (length b) (le-refl (length b))) content in
-      omega (arith, sym (ap length (ap bytesOf sheet-read ∙ bytes-read)), longest (tableOf s) (s .weights) (s .grid) (s .forbids) S)
-
--- ---- what can be stored is not refused
-
-placed-passes : (t : Table) (g : Grid) (fs : List Forbid) → Placed (t .count) (cells g) fs → Passed (forbidTests t g fs)
-unfolding forbidTests placeTests badPattern
-placed-passes t g [] h = tt
-placed-passes t g (f ∷ fs) h = (cell-inside g (f .cell) (h .0), (lt-leb (t .count) (f .pattern) (h .1), placed-passes t g fs (h .2)))
-
-side-good : (n : ℕ) → 1 ≤ n → n ≤ 64 → badSide n ≡ false
-unfolding badSide
-side-good n some few = rw (ne-eqb n 0 (λ z. omega arith), le-ltb 64 n few)
-
-size-good : (g : Grid) → Sized g → badSize (g .width) (g .height) ≡ false
-unfolding badSize
-size-good g z = rw (side-good (g .width) (z .wide) (z .narrow), side-good (g .height) (z .tall) (z .low), le-ltb 1024 (cells g) (z .few))
-
-wrap-good : (g : Grid) → Sized g → badWrap (g .mode) ≡ false
-unfolding badWrap
-wrap-good g z = le-ltb 3 (g .mode) (z .known)
-
-module _ (t : Table) (weights : List ℕ) (g : Grid) (forbids : List ℕ) (S : Storable t weights g forbids) where
-  records-stored : recordsIn forbids ≡ length forbids / 3
-  unfolding recordsIn
-  records-stored = rw (eq-eqb (length forbids % 3) 0 (S .fitting .threes))
-
-  pub write-accepts : (room : ℕ) → length (bytesOf (sheetFor t weights g forbids)) ≤ room → firstOf (writeTests t weights g forbids room) ≡ 0
-  unfolding writeTests sheetTests scalarTests contentTests
-  write-accepts room h =
-      let (count, offset, list, agreement) = accepted-complete t (S .fitting .accepted) in
-      let (one, heavy) = weighed-good (S .fitting .weighed) in
-      let third : length forbids ≡ 3 * (length forbids / 3) = omega (arith, S .fitting .threes) in
-      let needed = 32 + 6 * t .count + length (t .ids) + 6 * recordsIn forbids in
-      let lengths : writeMisfit t weights forbids room ≡ false =
-      writeMisfit-is t weights forbids room one offset (le-ltb 4096 (recordsIn forbids) (omega (arith, records-stored, S .fitting .few)))
-      (le-ltb room needed (omega (arith, records-stored, fitting-size t weights g forbids (S .fitting)))) in
-      passed-first (writeTests t weights g forbids room)
-      (count, (size-good g (S .fitting .sized), (wrap-good g (S .fitting .sized), (lengths, (heavy, (list, (agreement, placed-passes t g (forbidsOf forbids) (S .placed))))))))
+      omega (arith, sym (ap length (ap bytesOf sheet-read ∙ bytes-read)), longest (tableOf s) (s .weights) (s .grid) (s .forbids) read-storable)
 
 -- ---- slices of one exact length are written whole
 

@@ -228,8 +228,21 @@ fn choose(
     requires { ⌜ Standing (given (table count (now offsets) (now ids)) (now weights) (grid width height mode) (now noise)) (memory (now domains) (now counts) (now pending) (now floats) (now marks)) ⌝ }
     ensures { λ r. ⌜ Going (given (table count (now (offsets .entry)) (now (ids .entry))) (now (weights .entry)) (grid width height mode) (now (noise .entry))) (r .code) (memory (now (domains .exit)) (now (counts .exit)) (now (pending .exit)) (now (floats .exit)) (now (marks .exit))) ⌝ }
 {
-    let weighted = adjacency::inner::weighted_mask(weights);
-    match choice::inner::observe(domains.len(), noise, domains, floats, marks, weighted) {
+    match run::inner::sight(
+        count,
+        width,
+        height,
+        mode,
+        weights,
+        offsets,
+        ids,
+        noise,
+        domains,
+        counts,
+        pending,
+        floats,
+        marks,
+    ) {
         Observed::Nothing => Made {
             code: 14,
             cell: 0,

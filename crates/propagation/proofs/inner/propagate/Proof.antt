@@ -8,16 +8,18 @@ use Rattle.adjacency.specs.Tables.{table}
 use Rattle.grid.specs.Grid.{grid}
 use Rattle.consistency.specs.Worklist.{propagated}
 use Rattle.consistency.specs.Safe.{total}
-use Rattle.propagation.specs.Beside.{kept}
+use Rattle.propagation.specs.Watching.{watching}
 use Rattle.propagation.proofs.LentLaws.{pending-length, room-after, memory, stateIn, Going, going-start, going-on}
-use Rattle.propagation.proofs.PropagatorLaws.{unfinished-some, turn-safe, turn-less, propagated-beside, propagated-turn, propagated-end}
+use Rattle.propagation.proofs.PropagatorLaws.{unfinished-some, turn-safe, turn-less, propagated-turn, propagated-end}
+use Rattle.propagation.proofs.WatchedLaws.{watched-turn}
+use Rattle.propagation.proofs.WatchingLaws.{watched-unmarked, viewed-propagated, watched-propagated}
 use Rattle.propagation.proofs.inner.propagate.Statement.{statement}
 use Rattle.propagation.proofs.inner.propagate.Tie as tie
 
 abbrev Inv-loop : tie.InvT-loop
 Inv-loop count offsets ids weights weighted width height mode noise domains₀ counts₀ pending₀ floats₀ marks₀ cells next₀ domains counts pending floats marks next =
-    (propagated (table count offsets ids) (grid width height mode) (kept weights noise cells) (stateIn count (memory domains counts pending floats marks) next)
-    ≡ propagated (table count offsets ids) (grid width height mode) (kept weights noise cells) (stateIn count (memory domains₀ counts₀ pending₀ floats₀ marks₀) next₀))
+    (propagated (table count offsets ids) (grid width height mode) (watching weights noise cells) (stateIn count (memory domains counts pending floats marks) next)
+    ≡ propagated (table count offsets ids) (grid width height mode) (watching weights noise cells) (stateIn count (memory domains₀ counts₀ pending₀ floats₀ marks₀) next₀))
     × Going count cells weights noise (memory domains₀ counts₀ pending₀ floats₀ marks₀) (memory domains counts pending floats marks) next
 
 abbrev μ-loop : tie.MeasureT-loop
@@ -29,7 +31,7 @@ abbrev start : tie.At-loop Inv-loop μ-loop → tie.Start Inv-loop μ-loop
 start l = l .before .before .before .before .before .before .before .before .before .before .before .before .before .before
 
 unmark-requires : tie.Need-unmark-requires Inv-loop μ-loop
-unmark-requires c κs = tt
+unmark-requires c κs = omega (arith, c .before .before .before .before .before .before .before .before .before .before .pre .1 .1 .0 .marked)
 
 loop-holds : tie.Need-loop-holds Inv-loop μ-loop
 loop-holds c =
@@ -90,10 +92,16 @@ same-length-5 c =
 returns : tie.Need-returns Inv-loop μ-loop
 returns c =
     let head = c .before .before .before in
-    let ground = start head .pre .1 .0 in
+    let s = start head in
+    let (lent, (ground, (room, _))) = s .pre in
+    let cleared = head .before .before .before .unmark in
     let (left, going) = head .loop .inv in
-    propagated-beside _ _ _ _ (head .before .before .before .unmark .ensures (start head .args .floats .now))
-    (sym (propagated-end ground _ (going .lent) _ (c .if1 .left)) ∙ left)
+    let end = sym (propagated-end ground _ (going .lent) _ (c .if1 .left)) ∙ left in
+    let (front, back) = cleared .ensures in (
+      viewed-propagated ground _ _ lent _ _ end (front (s .args .floats .now)),
+      watched-turn (watched-unmarked _ _ _ (cleared .kept .1 .0) (omega (arith, room .marked)) front back _ _)
+          (watched-propagated ground _ _ lent _ _ end (omega (arith, room .marked, cleared .kept .1 .0))),
+    )
 
 pub propagate-spec : {M : Type 1} → statement M
 propagate-spec =

@@ -7,7 +7,7 @@ use native.Mathlib.Omega.{arith}
 use lib.ListN.{length, drop}
 use Rattle.loops.specs.Loops.{each}
 use Rattle.consistency.specs.Worklist.{decrement}
-use Rattle.propagation.specs.Beside.{kept}
+use Rattle.propagation.specs.Watching.{watching}
 use Rattle.loops.proofs.LoopLaws.{each-turn, each-end}
 use Rattle.adjacency.proofs.ListLaws.{allBelow-at}
 use Rattle.consistency.proofs.Keep.{safe-decrement}
@@ -18,8 +18,8 @@ use Rattle.propagation.proofs.propagator.decrements.Tie as tie
 
 abbrev Inv-loop : tie.InvT-loop
 Inv-loop count weights weighted noise cells cell d list domains₀ counts₀ pending₀ floats₀ marks₀ next₀ i₀ domains counts pending floats marks next i =
-    (each (decrement count (kept weights noise cells) cell d) (drop i list) (stateIn count (memory domains counts pending floats marks) next)
-    ≡ each (decrement count (kept weights noise cells) cell d) list (stateIn count (memory domains₀ counts₀ pending₀ floats₀ marks₀) next₀))
+    (each (decrement count (watching weights noise cells) cell d) (drop i list) (stateIn count (memory domains counts pending floats marks) next)
+    ≡ each (decrement count (watching weights noise cells) cell d) list (stateIn count (memory domains₀ counts₀ pending₀ floats₀ marks₀) next₀))
     × Going count cells weights noise (memory domains₀ counts₀ pending₀ floats₀ marks₀) (memory domains counts pending floats marks) next
 
 abbrev μ-loop : tie.MeasureT-loop

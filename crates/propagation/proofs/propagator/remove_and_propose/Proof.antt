@@ -1,9 +1,11 @@
--- `propagation::propagator::remove_and_propose` meets its contract: a removal in propagation is a removal that then proposes.
+-- `propagation::propagator::remove_and_propose` meets its contract: a removal in propagation is a removal that then proposes and touches its block.
 -- Assumes nothing.
 use mathlib.Core.Path.{refl}
+use native.Mathlib.Omega.{arith}
 use borrow.Author.Needs.{needs}
 use Rattle.propagation.proofs.LentLaws.{room-after}
-use Rattle.propagation.proofs.PropagatorLaws.{fit-remove, remove-proposed}
+use Rattle.propagation.proofs.WatchingLaws.{remove-proposed}
+use Rattle.propagation.proofs.PropagatorLaws.{fit-remove}
 use Rattle.propagation.proofs.propagator.remove_and_propose.Statement.{statement}
 use Rattle.propagation.proofs.propagator.remove_and_propose.Tie as tie
 
@@ -27,6 +29,13 @@ propose-requires c κs =
     let fit = fit-remove lent _ _ hc hp h (removed .remove .ensures (s .args .marks .now)) in
     ((room-after room (removed .remove .kept .1 .1 .1 .1 .1 .1 .1 .0) refl, masked), (lent .patterns, hc, hp, fit .words (s .args .cell)))
 
+touch-requires : tie.Need-touch-requires
+touch-requires c κs =
+    let proposed = c .before .before .before .before .before in
+    let removed = proposed .before .before .before .before .before .before .before .before .before .before .before .before in
+    let s = removed .before .before .before .before .before .before .before .before .before .before .before .before in
+    omega (arith, s .pre .1 .0 .0 .marked, s .pre .1 .1 .0, proposed .propose .kept .1 .1 .1 .1 .1 .1 .1 .1 .1 .0)
+
 same-length : tie.Need-same-length
 same-length c = search needs
 
@@ -44,10 +53,10 @@ same-length-5 c = search needs
 
 returns : tie.Need-returns
 returns c =
-    let proposed = c .before .before .before .before in
+    let proposed = c .before .before .before .before .before .before .before .before in
     let removed = proposed .before .before .before .before .before .before .before .before .before .before .before .before in
     let s = removed .before .before .before .before .before .before .before .before .before .before .before .before in
-    remove-proposed _ _ _ _ _ _ (removed .remove .ensures (s .args .marks .now)) (proposed .propose .ensures)
+    remove-proposed _ _ _ _ _ _ (removed .remove .ensures (s .args .marks .now)) (proposed .propose .ensures) (c .before .before .touch .ensures)
 
 pub remove-and-propose-spec : {M : Type 1} → statement M
 remove-and-propose-spec =
@@ -57,6 +66,7 @@ remove-and-propose-spec =
     mul-propose
     slice-read-propose
     propose-requires
+    touch-requires
     same-length
     same-length-2
     same-length-3

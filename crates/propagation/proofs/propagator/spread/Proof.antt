@@ -8,7 +8,7 @@ use Rattle.loops.specs.Loops.{steps}
 use Rattle.adjacency.specs.Tables.{table}
 use Rattle.grid.specs.Grid.{grid}
 use Rattle.consistency.specs.Worklist.{removal, spreadIn}
-use Rattle.propagation.specs.Beside.{kept}
+use Rattle.propagation.specs.Watching.{watching}
 use Rattle.loops.proofs.LoopLaws.{steps-turn, steps-end}
 use Rattle.propagation.proofs.LentLaws.{lent-safe, memory, stateIn, Going, going-start, going-on}
 use Rattle.propagation.proofs.PropagatorLaws.{spread-steps, ground-spreadIn}
@@ -17,9 +17,9 @@ use Rattle.propagation.proofs.propagator.spread.Tie as tie
 
 abbrev Inv-loop : tie.InvT-loop
 Inv-loop count offsets ids weights weighted width height mode noise cells cell p domains₀ counts₀ pending₀ floats₀ marks₀ next₀ d₀ domains counts pending floats marks next d =
-    (steps (spreadIn (table count offsets ids) (grid width height mode) (kept weights noise cells) (removal cell p)) d (4 - d)
+    (steps (spreadIn (table count offsets ids) (grid width height mode) (watching weights noise cells) (removal cell p)) d (4 - d)
     (stateIn count (memory domains counts pending floats marks) next)
-    ≡ steps (spreadIn (table count offsets ids) (grid width height mode) (kept weights noise cells) (removal cell p)) 0 4
+    ≡ steps (spreadIn (table count offsets ids) (grid width height mode) (watching weights noise cells) (removal cell p)) 0 4
     (stateIn count (memory domains₀ counts₀ pending₀ floats₀ marks₀) next₀))
     × Going count cells weights noise (memory domains₀ counts₀ pending₀ floats₀ marks₀) (memory domains counts pending floats marks) next
 

@@ -1,6 +1,8 @@
 -- `propagation::settle::reduce` meets its contract: what the work list leaves, with what is kept beside the domains forgotten.
 -- Assumes nothing.
 use mathlib.Core.Path.{sym, ap, _∙_}
+use Prim.Native.Nat.{ℕ}
+use native.Mathlib.Omega.{arith}
 use lib.ListN.{length, length-replicate}
 use borrow.Author.Needs.{needs}
 use Rattle.adjacency.specs.Tables.{table}
@@ -38,7 +40,7 @@ propagate-requires c κs =
     let g = grid (s .args .width) (s .args .height) (s .args .mode) in
     let zeros = take-zeros (s .args .count) 64 (s .pre .1 .patterns) in (
       lent-begun t g (s .args .domains .now) (s .pre .0) (s .pre .1 .fit) (s .pre .1) (began .begin .kept .1 .1 .1 .1 .1 .0) (began .begin .ensures),
-      (s .pre .0, (rw zeros (room-none (s .args .count) _ _ _ _), rw zeros (sym (mask-none (s .args .count))))),
+      (s .pre .0, (rw zeros (room-none (s .args .count) _ _ _ _ (omega (arith, s .pre .1 .cells, length-replicate {A = ℕ} 2080 0))), rw zeros (sym (mask-none (s .args .count))))),
     )
 
 same-length : tie.Need-same-length
@@ -57,7 +59,7 @@ returns c =
     let s = began .before .before .before .before .before .before .before .before .before in
     let t = table (s .args .count) (s .args .offsets .now) (s .args .ids .now) in
     let g = grid (s .args .width) (s .args .height) (s .args .mode) in
-    let e = reduce-is t g (s .args .domains .now) (s .pre .0) (s .pre .1 .fit) _ _ _ (began .begin .ensures) (left .propagate .ensures) in
+    let e = reduce-is t g (s .args .domains .now) (s .pre .0) (s .pre .1 .fit) _ _ _ (began .begin .ensures) (left .propagate .ensures .0) in
     (ap (λ (r : State (Unit {0})). r .empty) e, ap (λ (r : State (Unit {0})). r .domains) e)
 
 pub reduce-spec : {M : Type 1} → statement M

@@ -6,32 +6,39 @@ use borrow.Author.Needs.{needs}
 use Rattle.replay.proofs.cases.answer.Statement.{statement}
 use Rattle.replay.proofs.cases.answer.Tie as tie
 
-tell-requires : tie.Need-tell-requires
-tell-requires c κs = search needs
-
-returns : tie.Need-returns
-returns c = search needs
-
 least-requires : tie.Need-least-requires
 least-requires c κs = search needs
 
 least-requires-2 : tie.Need-least-requires-2
 least-requires-2 c κs = search needs
 
+least-requires-3 : tie.Need-least-requires-3
+least-requires-3 c κs = search needs
+
 slice-aggregate-answer : tie.Need-slice-aggregate-answer
-slice-aggregate-answer c = sym (length-take-le _ _ (c .before .before .before .if1 .left))
+slice-aggregate-answer c = sym (length-take-le _ _ (c .before .before .before .least .ensures .1))
 
 slice-aggregate-answer-2 : tie.Need-slice-aggregate-answer-2
-slice-aggregate-answer-2 c = sym (length-take-le _ _ (c .before .before .before .least .ensures .1))
+slice-aggregate-answer-2 c = sym (length-take-le _ _ (c .before .before .before .least2 .ensures .1))
 
 slice-aggregate-answer-3 : tie.Need-slice-aggregate-answer-3
-slice-aggregate-answer-3 c = sym (length-take-le _ _ (c .before .before .before .least2 .ensures .1))
+slice-aggregate-answer-3 c = sym (length-take-le _ _ (c .before .before .before .least3 .ensures .1))
 
 answer-requires : tie.Need-answer-requires
 answer-requires c κs = search needs
 
-returns-2 : tie.Need-returns-2
-returns-2 c = search needs
+returns : tie.Need-returns
+returns c = search needs
 
 pub answer-spec : {M : Type 1} → statement M
-answer-spec = tie.close (tie.spec tell-requires returns least-requires least-requires-2 slice-aggregate-answer slice-aggregate-answer-2 slice-aggregate-answer-3 answer-requires returns-2)
+answer-spec =
+    tie.close
+    (tie.spec
+    least-requires
+    least-requires-2
+    least-requires-3
+    slice-aggregate-answer
+    slice-aggregate-answer-2
+    slice-aggregate-answer-3
+    answer-requires
+    returns)

@@ -21,16 +21,7 @@ write-all-requires c κs = search needs
 returns : tie.Need-returns
 returns c = search needs
 
-returns-2 : tie.Need-returns-2
-returns-2 c = search needs
-
 pub tell-result-spec : {M : Type 1} → statement M
 tell-result-spec =
     tie.close
-    (tie.spec
-    tell-requires
-    least-requires
-    slice-aggregate-write-all
-    write-all-requires
-    returns
-    returns-2)
+    (tie.spec tell-requires least-requires slice-aggregate-write-all write-all-requires returns)

@@ -40,10 +40,16 @@ returns-4 c =
 mul-result : tie.Need-mul-result
 mul-result c = search needs
 
+add-result : tie.Need-add-result
+add-result c = search needs
+
+add-result-2 : tie.Need-add-result-2
+add-result-2 c = search needs
+
 returns-5 : tie.Need-returns-5
 unfolding badMemory
 returns-5 c =
     rw (eq-eqb _ _ (c .before .before .before .if1 .left), eq-eqb _ _ (c .before .before .if2 .left), eq-eqb _ _ (c .before .if3 .left), eq-eqb _ _ (c .if4 .left))
 
 pub bad-memory-spec : {M : Type 1} → statement M
-bad-memory-spec = tie.close (tie.spec returns mul-if2 mul-if2-2 returns-2 mul-if3 returns-3 mul-if4 returns-4 mul-result returns-5)
+bad-memory-spec = tie.close (tie.spec returns mul-if2 mul-if2-2 returns-2 mul-if3 returns-3 mul-if4 returns-4 mul-result add-result add-result-2 returns-5)

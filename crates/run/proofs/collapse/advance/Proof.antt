@@ -1,11 +1,12 @@
 -- `run::collapse::advance` meets its contract: where a turn goes on, there was a word to use.
 -- Assumes nothing.
 use native.Mathlib.Omega.{arith}
+use lib.ListN.{length}
 use borrow.Author.Needs.{needs}
 use Rattle.adjacency.specs.Tables.{table}
 use Rattle.grid.specs.Grid.{grid}
 use Rattle.consistency.specs.Worklist.{State}
-use Rattle.propagation.specs.Beside.{Beside, beside}
+use Rattle.propagation.specs.Beside.{Beside, besideIn}
 use Rattle.propagation.specs.Lent.{stateOf}
 use Rattle.run.specs.Run.{Given, given}
 use Rattle.run.specs.Steps.{idle}
@@ -18,7 +19,7 @@ abbrev input : tie.Start → Given
 input s = given (table (s .args .count) (s .args .offsets .now) (s .args .ids .now)) (s .args .weights .now) (grid (s .args .width) (s .args .height) (s .args .mode)) (s .args .noise .now)
 
 abbrev entry : tie.Start → State Beside
-entry s = stateOf (s .args .count) (s .args .domains .now) (s .args .counts .now) (s .args .pending .now) idle (beside (s .args .floats .now) (s .args .marks .now))
+entry s = stateOf (s .args .count) (s .args .domains .now) (s .args .counts .now) (s .args .pending .now) idle (besideIn (length (s .args .domains .now)) (s .args .floats .now) (s .args .marks .now))
 
 turn-requires : tie.Need-turn-requires
 turn-requires c κs = search needs
@@ -33,7 +34,7 @@ add-t32 : tie.Need-add-t32
 add-t32 c =
     let called = c .before .before .before .before .before .before .before .before .before .before .before .before .before .before in
     let s = called .before .before .before .before .before .before .before .before .before .before .before .before .before .before .before .before in
-    omega (arith, word-left (input s) (s .args .words .now) (s .args .used) (entry s) _ (c .before .before .pile .given .1) (called .turn .ensures), s .good .1 .1 .1 .1 .1 .1 .1 .1 .1 .0)
+    omega (arith, word-left (input s) (s .args .words .now) (s .args .used) (entry s) _ (c .before .before .pile .given .1) (called .turn .ensures .0), s .good .1 .1 .1 .1 .1 .1 .1 .1 .1 .0)
 
 same-length : tie.Need-same-length
 same-length c = search needs
@@ -53,13 +54,13 @@ same-length-5 c = search needs
 returns : tie.Need-returns
 returns c =
     let called = c .before .before .before .before .before .before .before .before .before .before .before .before .before .before in
-    (called .turn .result, stop-on _ (c .before .before .pile .given .1) (c .if1 .taken), called .turn .ensures)
+    (called .turn .result, stop-on _ (c .before .before .pile .given .1) (c .if1 .taken), called .turn .ensures .0, called .turn .ensures .1)
 
 add-t33 : tie.Need-add-t33
 add-t33 c =
     let called = c .before .before .before .before .before .before .before .before .before .before .before .before .before .before in
     let s = called .before .before .before .before .before .before .before .before .before .before .before .before .before .before .before .before in
-    omega (arith, word-left (input s) (s .args .words .now) (s .args .used) (entry s) _ (c .before .before .pile .given .1) (called .turn .ensures), s .good .1 .1 .1 .1 .1 .1 .1 .1 .1 .0)
+    omega (arith, word-left (input s) (s .args .words .now) (s .args .used) (entry s) _ (c .before .before .pile .given .1) (called .turn .ensures .0), s .good .1 .1 .1 .1 .1 .1 .1 .1 .1 .0)
 
 same-length-6 : tie.Need-same-length-6
 same-length-6 c = search needs
@@ -79,7 +80,7 @@ same-length-10 c = search needs
 returns-2 : tie.Need-returns-2
 returns-2 c =
     let called = c .before .before .before .before .before .before .before .before .before .before .before .before .before in
-    (called .turn .result, stop-over _ (c .before .end .given .1), called .turn .ensures)
+    (called .turn .result, stop-over _ (c .before .end .given .1), called .turn .ensures .0, called .turn .ensures .1)
 
 same-length-11 : tie.Need-same-length-11
 same-length-11 c = search needs
@@ -99,7 +100,7 @@ same-length-15 c = search needs
 returns-3 : tie.Need-returns-3
 returns-3 c =
     let called = c .before .before .before .before .before .before .before .before .before .before .before .before .before .before in
-    (called .turn .result, stop-on _ (c .before .before .pile .given .1) (c .if1 .left), called .turn .ensures)
+    (called .turn .result, stop-on _ (c .before .before .pile .given .1) (c .if1 .left), called .turn .ensures .0, called .turn .ensures .1)
 
 pub advance-spec : {M : Type 1} → statement M
 advance-spec =

@@ -52,7 +52,7 @@ returns : tie.Need-returns
 returns c =
     let called = c .before .before .before .before .before .before .before .before .before .before in
     let chose = called .before .before .before .before .before .before in
-    chosen-is _ _ _ _ (chose .before .weight-sum .ensures) (chose .choose .ensures) (λ z. absurd (omega arith)) (called .lay .ensures)
+    (chosen-is _ _ _ _ (chose .before .weight-sum .ensures) (chose .choose .ensures) (λ z. absurd (omega arith)) (called .lay .ensures .0), called .lay .ensures .1)
 
 pub choose-at-spec : {M : Type 1} → statement M
 choose-at-spec =

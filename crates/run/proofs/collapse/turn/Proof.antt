@@ -1,29 +1,43 @@
 -- `run::collapse::turn` meets its contract: the cell that is observed is one of the grid and weighs something, so a word chooses there.
 -- Assumes nothing.
-use mathlib.Core.Path.{refl}
+use mathlib.Core.List.{List}
+use mathlib.Core.Path.{_≡_, refl, ap}
+use Prim.Native.Nat.{ℕ, _*_}
 use native.Mathlib.Omega.{arith}
+use lib.ListN.{length, take}
 use borrow.Author.Needs.{needs}
 use Rattle.adjacency.specs.Tables.{table}
 use Rattle.grid.specs.Grid.{grid}
 use Rattle.consistency.specs.Worklist.{State}
-use Rattle.propagation.specs.Beside.{Beside, beside}
+use Rattle.propagation.specs.Beside.{Beside, beside, besideIn}
 use Rattle.propagation.specs.Lent.{stateOf}
-use Rattle.run.specs.Run.{Given}
-use Rattle.run.specs.Run.{given}
+use Rattle.choice.specs.Observer.{notesIn, observe}
+use Rattle.run.specs.Run.{Given, given}
 use Rattle.run.specs.Steps.{idle}
-use Rattle.run.proofs.StepLaws.{cell-inside, cell-weight, told-still, turn-paused, turn-chosen}
+use Rattle.run.proofs.StepLaws.{room-at, cell-inside, cell-weight, told-still, turn-paused, turn-from}
+use Rattle.run.proofs.WatchLaws.{observed-cut, observed-found, chosen-found, observed-of}
 use Rattle.run.proofs.collapse.turn.Statement.{statement}
 use Rattle.run.proofs.collapse.turn.Tie as tie
+
+-- the function's entry, from where the observation is known
+abbrev start : tie.After-observe → tie.Start
+start c = c .before .before .before .before .before .before .before .before .before .before .before .before .before .before
 
 -- what the turn is given, and the state that it starts from
 abbrev input : tie.Start → Given
 input s = given (table (s .args .count) (s .args .offsets .now) (s .args .ids .now)) (s .args .weights .now) (grid (s .args .width) (s .args .height) (s .args .mode)) (s .args .noise .now)
 
 abbrev entry : tie.Start → State Beside
-entry s = stateOf (s .args .count) (s .args .domains .now) (s .args .counts .now) (s .args .pending .now) idle (beside (s .args .floats .now) (s .args .marks .now))
+entry s = stateOf (s .args .count) (s .args .domains .now) (s .args .counts .now) (s .args .pending .now) idle (besideIn (length (s .args .domains .now)) (s .args .floats .now) (s .args .marks .now))
 
 observe-requires : tie.Need-observe-requires
-observe-requires c κs = search needs
+observe-requires c κs =
+    let (_, (_, ((_, roomy, _), sight))) = c .before .before .before .before .before .before .before .before .before .before .before .before .before .pre in
+    (record { noises = roomy .heard; words = refl; values = roomy .valued; marked = sight .marked }, (sight .numbers, sight .found))
+
+-- what was observed, of the marks of cells alone; `saw` is after the observation
+observed : (c : tie.After-observe) → c .observe .result ≡ observe (notesIn (length (start c .args .domains .now)) (start c .args .noise .now) (start c .args .domains .now) (start c .args .floats .now) (take (2 * length (start c .args .domains .now)) (start c .args .marks .now)) (start c .args .weighted))
+observed c = let a = start c .args in observed-of (length (a .domains .now)) (a .weighted) (a .noise .now) (a .domains .now) (a .floats .now) (a .marks .now) (c .observe .ensures .0)
 
 enum-told : tie.Need-enum-told
 enum-told c = search needs
@@ -42,31 +56,33 @@ same-length-3 c = search needs
 
 returns : tie.Need-returns
 returns c =
-    let saw = c .before .before .before .before .before in
-    let s = saw .before .before .before .before .before .before .before .before .before .before .before .before .before .before in
-    told-still (input s) (s .args .words .now) (s .args .used) (entry s) (saw .observe .ensures) (s .pre .1 .0 .all) (s .pre .1 .1 .2) refl (c .before .before .before .enum-told .given .1) (c .before .decided .ensures) (c .if1 .taken)
+    let saw = c .before .before .before .before .before .before .before in
+    let s = start saw in (
+      told-still (input s) (s .args .words .now) (s .args .used) (entry s) (observed saw) (s .pre .1 .0 .all) (s .pre .1 .1 .0 .2) refl (c .before .before .before .enum-told .given .1) (c .before .decided .ensures) (c .if1 .taken),
+      observed-found (s .args .noise .now) (s .args .weighted) (s .args .domains .now) (s .args .floats .now) (s .args .marks .now) (s .pre .1 .1 .1 .marked) (saw .observe .ensures .1),
+    )
 
 enum-known-cell : tie.Need-enum-known-cell
 enum-known-cell c = search needs
 
 mul-choose-at : tie.Need-mul-choose-at
-mul-choose-at c = omega (arith, c .if2 .taken, c .before .before .before .before .before .before .before .before .before .before .before .before .before .before .before .before .before .before .good .1 .1 .1 .1 .1 .1 .1 .1 .1 .0)
+mul-choose-at c = omega (arith, c .if2 .taken, c .before .before .before .before .before .before .before .before .before .before .before .before .before .before .before .before .before .before .before .before .good .1 .1 .1 .1 .1 .1 .1 .1 .1 .0)
 
 shared-slice-read-choose-at : tie.Need-shared-slice-read-choose-at
 shared-slice-read-choose-at c = search needs
 
 choose-at-requires : tie.Need-choose-at-requires
 choose-at-requires c κs =
-    let saw = c .before .before .before .before .before .before .before .before .before .before in
-    let s = saw .before .before .before .before .before .before .before .before .before .before .before .before .before .before in
-    let (lent, (ground, (weighed, roomy, masked))) = s .pre in
+    let saw = c .before .before .before .before .before .before .before .before .before .before .before .before in
+    let s = start saw in
+    let (lent, (ground, ((weighed, roomy, masked), _))) = s .pre in
     let is = c .before .before .before .before .before .before .before .before .cell .given .1 in (
       lent,
       (
         ground,
         (
-          (record { weighed = weighed; roomy = λ p h. roomy }, masked),
-          (cell-inside (input s) (s .args .words .now) (s .args .used) (entry s) (saw .observe .ensures) (ground .all) masked is, cell-weight (input s) (s .args .words .now) (s .args .used) (entry s) (saw .observe .ensures) (ground .all) masked is),
+          (room-at refl refl (saw .observe .kept .1 .1 .1 .1 .0) (record { weighed = weighed; marked = roomy .marked; roomy = λ p h. roomy }), masked),
+          (cell-inside (input s) (s .args .words .now) (s .args .used) (entry s) (observed saw) (ground .all) masked is, cell-weight (input s) (s .args .words .now) (s .args .used) (entry s) (observed saw) (ground .all) masked is),
         ),
       ),
     )
@@ -88,10 +104,18 @@ same-length-8 c = search needs
 
 returns-2 : tie.Need-returns-2
 returns-2 c =
-    let called = c .before .before .before .before .before .before .before .before .before .before in
-    let saw = called .before .before .before .before .before .before .before .before .before .before .before in
-    let s = saw .before .before .before .before .before .before .before .before .before .before .before .before .before .before in
-    turn-chosen (input s) (s .args .words .now) (s .args .used) (entry s) (saw .observe .ensures) (s .pre .1 .0 .all) (s .pre .1 .1 .2) refl (called .before .before .before .before .before .before .before .before .before .cell .given .1) (called .before .before .before .before .before .before .before .if2 .taken) (called .choose-at .ensures)
+    let called = c .before .before .before .before .before .before .before .before .before .before .choose-at in
+    let saw = c .before .before .before .before .before .before .before .before .before .before .before .before .before .before .before .before .before .before .before .before .before .before .before in
+    let s = start saw in
+    let a = s .args in
+    let sight = s .pre .1 .1 .1 in (
+      turn-from (input s) (a .words .now) (a .used) (entry s) (observed saw) (s .pre .1 .0 .all) (s .pre .1 .1 .0 .2) refl
+          (ap (λ (m : List ℕ). stateOf (a .count) (a .domains .now) (a .counts .now) (a .pending .now) idle (beside (a .floats .now) m))
+          (observed-cut (a .noise .now) (a .weighted) (a .domains .now) (a .floats .now) (a .marks .now) (sight .marked) (saw .observe .ensures .1)))
+          (c .before .before .before .before .before .before .before .before .before .before .before .before .before .before .before .before .before .before .before .cell .given .1) (c .before .before .before .before .before .before .before .before .before .before .before .before .before .before .before .before .before .if2 .taken) (called .ensures .0),
+      chosen-found (a .noise .now) (a .weighted) (a .domains .now) (a .floats .now) (a .marks .now) (sight .marked) (saw .observe .ensures .1) _ _ _
+          (called .kept .1 .1 .1 .1 .1 .1 .1 .1 .1 .1 .1 .0) (called .ensures .1),
+    )
 
 same-length-9 : tie.Need-same-length-9
 same-length-9 c = search needs
@@ -104,9 +128,11 @@ same-length-11 c = search needs
 
 returns-3 : tie.Need-returns-3
 returns-3 c =
-    let saw = c .before .before .before .before .before in
-    let s = saw .before .before .before .before .before .before .before .before .before .before .before .before .before .before in
-    told-still (input s) (s .args .words .now) (s .args .used) (entry s) (saw .observe .ensures) (s .pre .1 .0 .all) (s .pre .1 .1 .2) refl (c .before .before .before .enum-told .given .1) (c .before .decided .ensures) (c .if1 .left)
+    let saw = c .before .before .before .before .before .before .before in
+    let s = start saw in (
+      told-still (input s) (s .args .words .now) (s .args .used) (entry s) (observed saw) (s .pre .1 .0 .all) (s .pre .1 .1 .0 .2) refl (c .before .before .before .enum-told .given .1) (c .before .decided .ensures) (c .if1 .left),
+      observed-found (s .args .noise .now) (s .args .weighted) (s .args .domains .now) (s .args .floats .now) (s .args .marks .now) (s .pre .1 .1 .1 .marked) (saw .observe .ensures .1),
+    )
 
 same-length-12 : tie.Need-same-length-12
 same-length-12 c = search needs
@@ -119,9 +145,11 @@ same-length-14 c = search needs
 
 returns-4 : tie.Need-returns-4
 returns-4 c =
-    let saw = c .before .before .before .before in
-    let s = saw .before .before .before .before .before .before .before .before .before .before .before .before .before .before in
-    turn-paused (input s) (s .args .words .now) (s .args .used) (entry s) (saw .observe .ensures) (s .pre .1 .0 .all) (s .pre .1 .1 .2) refl (c .before .before .cell .given .1) (c .if2 .left)
+    let saw = c .before .before .before .before .before .before in
+    let s = start saw in (
+      turn-paused (input s) (s .args .words .now) (s .args .used) (entry s) (observed saw) (s .pre .1 .0 .all) (s .pre .1 .1 .0 .2) refl (c .before .before .cell .given .1) (c .if2 .left),
+      observed-found (s .args .noise .now) (s .args .weighted) (s .args .domains .now) (s .args .floats .now) (s .args .marks .now) (s .pre .1 .1 .1 .marked) (saw .observe .ensures .1),
+    )
 
 pub turn-spec : {M : Type 1} → statement M
 turn-spec =

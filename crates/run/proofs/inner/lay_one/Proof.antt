@@ -34,7 +34,7 @@ returns c =
     let laid = c .before .before .before .before .before .before .before .before .before .before .before in
     let s = laid .before .before .before .before .before .before .before .before .before .before .before .before .before .before .before .before .before in
     let (S, hc, hp) = s .pre in
-    lay-contradicted S (asking (s .args .cell) (s .args .pattern) (s .args .keep)) hc hp _ (laid .lay .result) (laid .lay .ensures) (c .if1 .taken)
+    lay-contradicted S (asking (s .args .cell) (s .args .pattern) (s .args .keep)) hc hp _ (laid .lay .result) (laid .lay .ensures .0) (c .if1 .taken)
 
 same-length-6 : tie.Need-same-length-6
 same-length-6 c = search needs
@@ -56,7 +56,7 @@ returns-2 c =
     let laid = c .before .before .before .before .before .before .before .before .before .before .before in
     let s = laid .before .before .before .before .before .before .before .before .before .before .before .before .before .before .before .before .before in
     let (S, hc, hp) = s .pre in
-    lay-standing S (asking (s .args .cell) (s .args .pattern) (s .args .keep)) hc hp _ (laid .lay .result) (laid .lay .ensures) (c .if1 .left)
+    lay-standing S (asking (s .args .cell) (s .args .pattern) (s .args .keep)) hc hp _ (laid .lay .result) (laid .lay .ensures .0) (c .if1 .left)
 
 pub lay-one-spec : {M : Type 1} → statement M
 lay-one-spec =

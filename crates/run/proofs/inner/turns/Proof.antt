@@ -2,7 +2,7 @@
 -- Assumes nothing.
 use borrow.Author.Needs.{needs}
 use Rattle.run.specs.Called.{Memory, memory}
-use Rattle.run.proofs.StandingLaws.{standing-lent, standing-ground, standing-roomy, stop-most, room-same, turns-concluded}
+use Rattle.run.proofs.StandingLaws.{standing-lent, standing-ground, standing-roomy, standing-marked, stop-most, room-same, turns-concluded}
 use Rattle.run.proofs.inner.turns.Statement.{statement}
 use Rattle.run.proofs.inner.turns.Tie as tie
 
@@ -16,7 +16,7 @@ weighted-mask-requires c κs = search needs
 collapse-requires : tie.Need-collapse-requires
 collapse-requires c κs =
     let S = c .before .before .before .before .before .before .before .before .before .before .before .before .before .before .before .before .pre in
-    (standing-lent S, (standing-ground S, ((S .laid .lawful .weighed, standing-roomy S, c .before .before .before .before .before .weighted-mask .ensures), S .laid)))
+    (standing-lent S, (standing-ground S, ((S .laid .lawful .weighed, standing-roomy S, c .before .before .before .before .before .weighted-mask .ensures), (standing-marked S, S .laid))))
 
 finish-requires : tie.Need-finish-requires
 finish-requires c κs = search needs

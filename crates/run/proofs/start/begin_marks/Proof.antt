@@ -1,11 +1,11 @@
--- `run::start::begin_marks` meets its contract: all zero, then the first half one number.
+-- `run::start::begin_marks` meets its contract: all zero, then the first part one number.
 -- Assumes nothing.
 use mathlib.Core.List.{List, _++_}
 use mathlib.Core.Path.{ap, _∙_}
 use Prim.Native.Nat.{ℕ}
 use lib.ListN.{replicate, drop}
 use borrow.Author.Needs.{needs}
-use Rattle.run.proofs.StartLaws.{fill-half}
+use Rattle.run.proofs.StartLaws.{fill-first}
 use Rattle.run.proofs.start.begin_marks.Statement.{statement}
 use Rattle.run.proofs.start.begin_marks.Tie as tie
 
@@ -22,7 +22,7 @@ returns : tie.Need-returns
 returns c =
     let s = c .before .before .before .before .before .before .before .before .before in
     c .before .before .fill-marks .ensures ∙ ap (λ (l : List ℕ). replicate (s .args .cells) (s .args .number) ++ drop (s .args .cells) l) (c .before .before .before .before .before .before .zero-bytes .ensures)
-    ∙ fill-half (s .args .number) 0 _ (s .args .cells) (s .pre)
+    ∙ fill-first (s .args .number) 0 _ (s .args .cells) (s .pre)
 
 pub begin-marks-spec : {M : Type 1} → statement M
 begin-marks-spec = tie.close (tie.spec zero-bytes-requires fill-marks-requires same-length returns)

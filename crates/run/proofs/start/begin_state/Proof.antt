@@ -47,7 +47,7 @@ returns c =
     let a = s .args in
     begun-is (table (a .count) (a .offsets .now) (a .ids .now)) (a .weights .now) (a .cells) (c .before .before .before .before .before .before .before .before .before .before .before .before .before .before .before .before .before .full-word .result) (c .before .before .before .before .first-count .result) (a .domains .now)
     (c .before .before .before .before .before .before .before .before .before .before .before .before .before .before .before .before .before .full-word .ensures) (c .before .before .before .before .first-count .ensures) (s .pre .1 .words) (c .before .before .before .before .before .before .before .before .before .before .before .before .before .before .before .fill-domains .ensures)
-    (c .before .before .before .before .before .before .before .before .before .before .before .start-counts .ensures (a .cells) (s .pre .1 .supports)) (c .before .before .before .before .before .before .before .begin-floats .ensures) (c .before .before .begin-marks .ensures)
+    (c .before .before .before .before .before .before .before .before .before .before .before .start-counts .ensures (a .cells) (s .pre .1 .supports)) (c .before .before .before .before .before .before .before .begin-floats .ensures) _ (omega (arith, s .pre .1 .notes)) (c .before .before .begin-marks .ensures)
 
 pub begin-state-spec : {M : Type 1} → statement M
 begin-state-spec =

@@ -1,0 +1,5 @@
+pub mod ReadLaws
+pub mod TakenLaws
+pub mod RunLaws
+pub mod KeptLaws
+pub mod AcceptLaws

@@ -1,0 +1,33 @@
+// The first entries of what was read or filled.
+
+// The first n bytes, or all of them where there are fewer.
+pub(crate) fn bytes_of<'a>(bytes: &'a [u8], n: usize) -> &'a [u8] {
+    if n <= bytes.len() {
+        return &bytes[..n];
+    }
+    bytes
+}
+
+// The first n words.
+pub(crate) fn words_of<'a>(words: &'a [u32], n: usize) -> &'a [u32] {
+    if n <= words.len() {
+        return &words[..n];
+    }
+    words
+}
+
+// The first n domains.
+pub(crate) fn domains_of<'a>(domains: &'a [u64], n: usize) -> &'a [u64] {
+    if n <= domains.len() {
+        return &domains[..n];
+    }
+    domains
+}
+
+// Fills the first n words from a seed, and answers the state after them.
+pub(crate) fn fill(state: u32, n: usize, out: &mut [u32]) -> u32 {
+    if n <= out.len() {
+        return seed::fill(state, &mut out[..n]);
+    }
+    state
+}
