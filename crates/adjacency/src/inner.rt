@@ -26,7 +26,7 @@ pub fn weight_sum(weights: &[u32], word: u64) -> u32
     while left != 0 {
         let p = words::inner::next_pattern(left);
         sum += weights[p];
-        left = words::inner::without_pattern(left, p);
+        left = words::inner::without_least(left);
     }
     sum
 }

@@ -16,6 +16,7 @@ use Rattle.refusals.specs.Refusals.{Asked}
 use Rattle.adjacency.specs.Tables.{Table}
 use Rattle.adjacency.specs.Checks.{weightsMisfit}
 use Rattle.grid.specs.Grid.{Grid, cells}
+use Rattle.logarithms.specs.Blocks.{blocks}
 use Rattle.run.specs.Run.{Given, Ended, runOf}
 use Rattle.run.specs.Called.{Memory, memory, Measured, roomOf, badMemory, badLengths, forbidsOf, recordsIn, End, finished, cleared}
 use Rattle.sheet.specs.Result.{resultOf, short, resultTests, ResultOutcome, resultOutcome, resultAt, resultCalled}
@@ -104,13 +105,13 @@ runnable-few {t} {weights} {g} R = scalars-good (t .count) g (R .scalars) .1 .fe
 
 -- the fronts of memory for 1,024 cells and 4,096 cells times patterns are as long as a run wants them
 pub lent-measured : (n P : ℕ) (domains counts pending : List ℕ) (floats : List Float) (marks : List ℕ) → n ≤ 1024 → n * P ≤ 4096 → 1024 ≤ length domains
-    → 16384 ≡ length counts → 4096 ≡ length pending → 2048 ≡ length floats → 2048 ≡ length marks
-    → Measured P n (memory (take n domains) (take (4 * (n * P)) counts) (take (n * P) pending) (take (2 * n) floats) (take (2 * n) marks))
+    → 16384 ≡ length counts → 4096 ≡ length pending → 2048 ≡ length floats → 2080 ≡ length marks
+    → Measured P n (memory (take n domains) (take (4 * (n * P)) counts) (take (n * P) pending) (take (2 * n) floats) (take (2 * n + blocks n) marks))
 lent-measured n P domains counts pending floats marks few small e₁ e₂ e₃ e₄ e₅ =
     record {
       domains = length-take-le n domains (omega arith);
       counts = omega (arith, length-take-le (4 * (n * P)) counts (omega arith));
       pending = length-take-le (n * P) pending (omega arith);
       floats = length-take-le (2 * n) floats (omega arith);
-      marks = length-take-le (2 * n) marks (omega arith);
+      marks = length-take-le (2 * n + blocks n) marks (omega arith);
     }

@@ -76,7 +76,7 @@ pub fn choose(weights: &[u32], word: u64, number: u32) -> usize
     let mut p = words::inner::next_pattern(left);
     while weights[p] <= r {
         r -= weights[p];
-        left = words::inner::without_pattern(left, p);
+        left = words::inner::without_least(left);
         p = words::inner::next_pattern(left);
     }
     p

@@ -12,17 +12,17 @@ pub(crate) enum Best {
     Empty,
 }
 
-// Whether a note counts. A count of 0 is no note, and is passed before any ones are counted.
+// Whether a note counts. A count of 0 is no note, and is passed first; the ones are counted only of a word that has several.
 fn valid(note: Note, word: u64, weighted: u64) -> bool
     ensures { λ r. ⌜ r ≡ valid (note .count) word weighted ⌝ }
 {
     if note.count == 0 {
         return false;
     }
-    if words::inner::count_ones(words::inner::shared(word, weighted)) != note.count as usize {
+    if !words::inner::several(word) {
         return false;
     }
-    2 <= words::inner::count_ones(word)
+    words::inner::count_ones(words::inner::shared(word, weighted)) == note.count as usize
 }
 
 // The better of the best so far and a cell that comes after it: the least entropy, then the least noise word, then the earlier cell.

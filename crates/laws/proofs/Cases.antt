@@ -3,7 +3,7 @@
 use mathlib.Core.List.{List, [], _∷_, map}
 use mathlib.Core.Option.{some}
 use mathlib.Core.Path.{_≡_, refl}
-use Prim.Native.Nat.{ℕ, _*_}
+use Prim.Native.Nat.{ℕ, _+_, _*_}
 use lib.Ieee.{Float, binary32, ofBits}
 use lib.ListN.{replicate}
 use Rattle.adjacency.specs.Tables.{Table, table}
@@ -13,6 +13,7 @@ use Rattle.consistency.specs.Worklist.{Removal, removal}
 use Rattle.run.specs.declared.Forbid.{Forbid}
 use Rattle.run.specs.Asked.{choiceOf}
 use Rattle.run.specs.Course.{lastOf}
+use Rattle.logarithms.specs.Blocks.{blocks}
 use Rattle.run.specs.Called.{Memory, memory, Outcome, calledOf, called}
 use Rattle.consistency.proofs.Cases.{checker}
 
@@ -44,7 +45,7 @@ abbrev pub lent : Call → ℕ → Float → List ℕ → Memory
 lent k n x domains =
     let cs = cells (k .grid) in
     let P = k .table .count in
-    memory domains (replicate (cs * P * 4) n) (replicate (cs * P) n) (replicate (2 * cs) x) (replicate (2 * cs) n)
+    memory domains (replicate (cs * P * 4) n) (replicate (cs * P) n) (replicate (2 * cs) x) (replicate (2 * cs + blocks cs) n)
 
 -- what it comes to, on memory that is full of sevens
 unfoldable pub found : Call → Outcome

@@ -25,7 +25,7 @@ lengths domains counts pending floats marks =
 
 -- for two patterns at two cells
 abbrev two : Memory
-two = lengths 2 16 4 4 4
+two = lengths 2 16 4 4 5
 
 -- the first offset is not 0, and a pattern's lists disagree
 abbrev askew : Table
@@ -55,11 +55,11 @@ refusal-order = (refl, refl, refl, refl, refl, refl, refl, refl, refl, refl, ref
 refusal-lengths :
     (map (λ w. refusal checker (replicate w 1) (grid 2 1 0) 2 [] two) (1 ∷ 2 ∷ 3 ∷ []) ≡ 5 ∷ 0 ∷ 5 ∷ [])
     × (map (λ n. refusal checker (1 ∷ 1 ∷ []) (grid 2 1 0) n [] two) (1 ∷ 2 ∷ 3 ∷ []) ≡ 5 ∷ 0 ∷ 5 ∷ [])
-    × (map (λ n. refusal checker (1 ∷ 1 ∷ []) (grid 2 1 0) 2 [] (lengths n 16 4 4 4)) (1 ∷ 2 ∷ 3 ∷ []) ≡ 5 ∷ 0 ∷ 5 ∷ [])
-    × (map (λ n. refusal checker (1 ∷ 1 ∷ []) (grid 2 1 0) 2 [] (lengths 2 n 4 4 4)) (15 ∷ 16 ∷ 17 ∷ []) ≡ 5 ∷ 0 ∷ 5 ∷ [])
-    × (map (λ n. refusal checker (1 ∷ 1 ∷ []) (grid 2 1 0) 2 [] (lengths 2 16 n 4 4)) (3 ∷ 4 ∷ 5 ∷ []) ≡ 5 ∷ 0 ∷ 5 ∷ [])
-    × (map (λ n. refusal checker (1 ∷ 1 ∷ []) (grid 2 1 0) 2 [] (lengths 2 16 4 n 4)) (3 ∷ 4 ∷ 5 ∷ []) ≡ 5 ∷ 0 ∷ 5 ∷ [])
-    × (map (λ n. refusal checker (1 ∷ 1 ∷ []) (grid 2 1 0) 2 [] (lengths 2 16 4 4 n)) (3 ∷ 4 ∷ 5 ∷ []) ≡ 5 ∷ 0 ∷ 5 ∷ [])
+    × (map (λ n. refusal checker (1 ∷ 1 ∷ []) (grid 2 1 0) 2 [] (lengths n 16 4 4 5)) (1 ∷ 2 ∷ 3 ∷ []) ≡ 5 ∷ 0 ∷ 5 ∷ [])
+    × (map (λ n. refusal checker (1 ∷ 1 ∷ []) (grid 2 1 0) 2 [] (lengths 2 n 4 4 5)) (15 ∷ 16 ∷ 17 ∷ []) ≡ 5 ∷ 0 ∷ 5 ∷ [])
+    × (map (λ n. refusal checker (1 ∷ 1 ∷ []) (grid 2 1 0) 2 [] (lengths 2 16 n 4 5)) (3 ∷ 4 ∷ 5 ∷ []) ≡ 5 ∷ 0 ∷ 5 ∷ [])
+    × (map (λ n. refusal checker (1 ∷ 1 ∷ []) (grid 2 1 0) 2 [] (lengths 2 16 4 n 5)) (3 ∷ 4 ∷ 5 ∷ []) ≡ 5 ∷ 0 ∷ 5 ∷ [])
+    × (map (λ n. refusal checker (1 ∷ 1 ∷ []) (grid 2 1 0) 2 [] (lengths 2 16 4 4 n)) (4 ∷ 5 ∷ 6 ∷ []) ≡ 5 ∷ 0 ∷ 5 ∷ [])
 unfolding refusal
 refusal-lengths = (refl, refl, refl, refl, refl, refl, refl)
 

@@ -8,7 +8,7 @@ use Prim.Native.Nat.{ℕ, zero, suc, _+_, _-_, _*_, _^_, _≤_, _<_}
 use native.Mathlib.Decide.{ℕ-discrete}
 use native.Mathlib.Numerals.{add-one}
 use native.Mathlib.Omega.{arith}
-use lib.Bits.{bitAnd, and-le-l}
+use lib.Bits.{bitAnd, and-le-l, and-le-r}
 use lib.Dec.{leb}
 use lib.Ieee.{Float, nan, lt}
 use lib.ListN.{length, getD, set, take, replicate, length-set}
@@ -23,8 +23,8 @@ use Rattle.logarithms.specs.declared.inner.Note.{Note}
 use Rattle.propagation.specs.Beside.{Beside, beside, besideIn, weightedIn, lessenedBy, proposes, proposed, written, noted, proposing, unmarked}
 use Rattle.propagation.specs.Lent.{Roomy}
 use Rattle.loops.proofs.TestLaws.{both}
-use Rattle.words.proofs.CountLaws.{many-width, many-none}
-use Rattle.adjacency.proofs.WeightLaws.{true-weighted, false-weighted, zero-weightSum}
+use Rattle.words.proofs.CountLaws.{many-width, many-none, many-zero}
+use Rattle.adjacency.proofs.WeightLaws.{true-weighted, false-weighted, mask-lt, zero-weightSum}
 
 -- ---- the running value
 
@@ -47,19 +47,23 @@ many-64 {P} {ws} W few w h = many-width 64 (length ws) w (omega (arith, pow-mono
 pub weighted-64 : {P : ℕ} {ws : List ℕ} → Weighed P ws → P ≤ 64 → (w : ℕ) → w < 2 ^ P → howMany 64 (bitAnd w (mask ws)) ≡ weightedIn ws w
 weighted-64 {P} {ws} W few w h = many-64 W few (bitAnd w (mask ws)) (omega (arith, and-le-l w (mask ws)))
 
--- the ways through `proposes`; m is how many weighted patterns the word has, and n how many
+-- the ways through `proposes`
 module _ (ws : List ℕ) (p w : ℕ) where
   pub proposes-unweighted : weightOf ws p ≡ 0 → false ≡ proposes ws p w
   unfolding proposes
   proposes-unweighted e = rw (false-weighted ws p e)
 
-  pub proposes-none : {m : ℕ} → (weightOf ws p ≡ 0 → ⊥) → m ≡ weightedIn ws w → m ≡ 0 → false ≡ proposes ws p w
+  pub proposes-none : (weightOf ws p ≡ 0 → ⊥) → bitAnd w (mask ws) ≡ 0 → false ≡ proposes ws p w
   unfolding proposes
-  proposes-none z e n = rw (true-weighted ws p (omega arith), sym e ∙ n)
+  proposes-none z e = rw (true-weighted ws p (omega arith), e, many-none (length ws))
 
-  pub proposes-some : {m n : ℕ} → (weightOf ws p ≡ 0 → ⊥) → m ≡ weightedIn ws w → (m ≡ 0 → ⊥) → n ≡ howMany (length ws) w → leb 2 n ≡ proposes ws p w
+  pub proposes-some : (weightOf ws p ≡ 0 → ⊥) → (bitAnd w (mask ws) ≡ 0 → ⊥) → leb 2 (howMany (length ws) w) ≡ proposes ws p w
   unfolding proposes
-  proposes-some {m} z e f k = rw (true-weighted ws p (omega arith), ← e, le-leb 1 m (omega arith), k)
+  proposes-some z f = rw (true-weighted ws p (omega arith), le-leb 1 (weightedIn ws w) (some (ℕ-discrete (weightedIn ws w) 0)))
+    where
+      some : Dec (weightedIn ws w ≡ 0) → 1 ≤ weightedIn ws w
+      some (yes e) = absurd (f (many-zero (length ws) (bitAnd w (mask ws)) (omega (arith, and-le-r w (mask ws), mask-lt ws)) e))
+      some (no n) = omega arith
 
   -- a removal that proposes is of a weighted pattern, and leaves weight
   pub proposes-weight : proposes ws p w ≡ true → (weighted ws p ≡ true) × (1 ≤ weightSum ws w)

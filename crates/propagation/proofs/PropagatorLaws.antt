@@ -8,7 +8,7 @@ use Prim.Native.Nat.{ℕ, zero, suc, _+_, _-_, _*_, _/_, _%_, _≤_, _<_}
 use native.Mathlib.Decide.{ℕ-discrete}
 use native.Mathlib.Nat.{le-refl}
 use native.Mathlib.Omega.{arith}
-use lib.Dec.{leb, ltb}
+use lib.Dec.{eqb, leb, ltb}
 use lib.ListN.{length, getD, set}
 use borrow.Author.Tests.{eqb-true, eqb-false, le-leb, ltb-true, lt-ltb, not-true, not-false}
 use Rattle.loops.specs.Loops.{each, steps}
@@ -21,7 +21,7 @@ use Rattle.consistency.specs.Domains.{possible, Fit}
 use Rattle.consistency.specs.Worklist.{Removal, removal, State, state, place, remove, decrementAt, decrement, decrements, spreadIn, spread, propagate, propagated}
 use Rattle.consistency.specs.Safe.{total, Safe}
 use Rattle.propagation.specs.declared.inner.Pile.{Pile}
-use Rattle.propagation.specs.Supports.{lastWay, loweredAt}
+use Rattle.propagation.specs.Supports.{Taken, taken, takenAt}
 use Rattle.propagation.specs.Lent.{pendingOf, stateOf, topOf, lowered, Lent, Ground}
 use Rattle.loops.proofs.TestLaws.{both}
 use Rattle.grid.proofs.GridLaws.{neighbour-inside}
@@ -39,15 +39,21 @@ module _ {P n : ℕ} {D C Q : List ℕ} {pile : Pile} (L : Lent P n D C Q pile) 
 -- ---- one support is taken; `b` is whether it was the last, and C′ the counts after it
 
 module _ {P n : ℕ} {D C Q : List ℕ} {pile : Pile} (L : Lent P n D C Q pile) {c d q : ℕ} (hc : c < n) (hd : d < 4) (hq : q < P) {C′ : List ℕ} {b : Bool}
-    (e : b ≡ lastWay C (place P c q d)) (l : C′ ≡ loweredAt C (place P c q d)) where
+    (e : taken b C′ ≡ takenAt C (place P c q d)) where
+  last-is : b ≡ eqb (getD C (place P c q d) 0) 1
+  unfolding takenAt
+  last-is = ap (λ (t : Taken). t .last) e
+
+  left-is : C′ ≡ cond (leb 2 (getD C (place P c q d) 0)) (set C (place P c q d) (getD C (place P c q d) 0 - 1)) C
+  unfolding takenAt
+  left-is = ap (λ (t : Taken). t .counts) e
+
   last-one : b ≡ true → getD C (place P c q d) 0 ≡ 1
-  unfolding lastWay
-  last-one t = eqb-true _ _ (sym e ∙ t)
+  last-one t = eqb-true _ _ (sym last-is ∙ t)
 
   -- the last support is left to the removal
   last-same : b ≡ true → C′ ≡ C
-  unfolding loweredAt
-  last-same t = l ∙ rw (last-one t)
+  last-same t = left-is ∙ rw (last-one t)
 
   pub lent-last : b ≡ true → Lent P n D C′ Q pile
   lent-last t = rw (last-same t) L
@@ -61,8 +67,8 @@ module _ {P n : ℕ} {D C Q : List ℕ} {pile : Pile} (L : Lent P n D C Q pile) 
     decrement-last t k = rw (last-one t, decrement) (rw (last-same t) at k)
 
     pub decrement-more : b ≡ false → stateOf P D C′ Q pile x ≡ decrement P keep c d q (stateOf P D C Q pile x)
-    unfolding lastWay loweredAt decrement
-    decrement-more t = rw l (go (getD C (place P c q d) 0) (eqb-false _ _ (sym e ∙ t)))
+    unfolding decrement
+    decrement-more t = rw left-is (go (getD C (place P c q d) 0) (eqb-false _ _ (sym last-is ∙ t)))
       where
         go : (m : ℕ) → (m ≡ 1 → ⊥)
             → stateOf P D (cond (leb 2 m) (set C (place P c q d) (m - 1)) C) Q pile x ≡ decrementAt P keep c d q m (stateOf P D C Q pile x)

@@ -1,14 +1,18 @@
 -- One support count, as the code lowers it. Follows docs/RULES.md, "Propagation". Assumes nothing.
-use mathlib.Core.Bool.{Bool, true, false, cond}
+use mathlib.Core.Bool.{Bool, cond}
 use mathlib.Core.List.{List}
 use Prim.Native.Nat.{ℕ, _-_}
 use lib.Dec.{leb, eqb}
 use lib.ListN.{getD, set}
 
--- whether the count at k is the last support
-unfoldable pub lastWay : List ℕ → ℕ → Bool
-lastWay counts k = eqb (getD counts k 0) 1
+-- what one visit to a count comes to: whether it was the last support, and the counts after it
+pub record Taken : Type 0 where
+  pub last : Bool
+  pub counts : List ℕ
 
--- the counts with the one at k lowered, where it is not the last and not gone already
-unfoldable pub loweredAt : List ℕ → ℕ → List ℕ
-loweredAt counts k = cond (leb 2 (getD counts k 0)) (set counts k (getD counts k 0 - 1)) counts
+abbrev pub taken : Bool → List ℕ → Taken
+taken last counts = record { last = last; counts = counts }
+
+-- one support is taken from the count at k, where it is not the last and not gone already
+unfoldable pub takenAt : List ℕ → ℕ → Taken
+takenAt counts k = taken (eqb (getD counts k 0) 1) (cond (leb 2 (getD counts k 0)) (set counts k (getD counts k 0 - 1)) counts)

@@ -30,10 +30,10 @@ fn proposes(count: usize, weights: &[u32], weighted: u64, pattern: usize, word: 
     if weights[pattern] == 0 {
         return false;
     }
-    if words::inner::count_ones(words::inner::shared(word, weighted)) == 0 {
+    if words::inner::shared(word, weighted) == 0 {
         return false;
     }
-    2 <= words::inner::count_ones(word)
+    words::inner::several(word)
 }
 
 // A cell's first proposal in a propagation replaces its note; a later one only lowers it.

@@ -3,21 +3,18 @@ ghost use mathlib.Core.Path.{_≡_};
 ghost use Prim.Native.Nat.{_+_, _<_};
 ghost use lib.ListN.{length};
 ghost use Rattle.consistency.specs.Worklist.{cleared};
-ghost use Rattle.propagation.specs.Supports.{lastWay, loweredAt};
+ghost use Rattle.propagation.specs.Supports.{taken, takenAt};
 
 // Takes one support. True where it is the last: then the pattern goes, and clearing its counts is left to its removal.
 pub(crate) fn try_decrement(counts: &mut [u8], at: usize) -> bool
     requires { ⌜ at < length (now counts) ⌝ }
-    ensures { λ r. ⌜ r ≡ lastWay (now (counts .entry)) at ⌝ }
-    ensures { λ r. ⌜ now (counts .exit) ≡ loweredAt (now (counts .entry)) at ⌝ }
+    ensures { λ r. ⌜ taken r (now (counts .exit)) ≡ takenAt (now (counts .entry)) at ⌝ }
 {
     let count = counts[at];
-    if count == 1 {
-        return true;
+    if count < 2 {
+        return count == 1;
     }
-    if count != 0 {
-        counts[at] = count - 1;
-    }
+    counts[at] = count - 1;
     false
 }
 

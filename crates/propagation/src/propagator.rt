@@ -77,51 +77,8 @@ fn remove_and_propose(
     next
 }
 
-// Takes one support from direction d from pattern q at a cell; where it was the last, the pattern goes.
-fn decrement(
-    count: usize,
-    weights: &[u32],
-    weighted: u64,
-    noise: &[u32],
-    cells: usize,
-    cell: usize,
-    d: usize,
-    q: usize,
-    domains: &mut [u64],
-    counts: &mut [u8],
-    pending: &mut [u32],
-    floats: &mut [f32],
-    marks: &mut [u8],
-    pile: Pile,
-) -> Pile
-    requires { ⌜ Lent count cells (now domains) (now counts) (now pending) pile ⌝ }
-    requires { ⌜ Room count cells (now weights) (now noise) (now floats) (now marks) × (weighted ≡ mask (now weights)) ⌝ }
-    requires { ⌜ (cell < cells) × (d < 4) × (q < count) ⌝ }
-    ensures { λ r. ⌜ stateOf count (now (domains .exit)) (now (counts .exit)) (now (pending .exit)) r (beside (now (floats .exit)) (now (marks .exit)))
-        ≡ worklist.decrement count (watching (now (weights .entry)) (now (noise .entry)) cells) cell d q
-        (stateOf count (now (domains .entry)) (now (counts .entry)) (now (pending .entry)) pile (beside (now (floats .entry)) (now (marks .entry)))) ⌝ }
-{
-    if crate::num_ways::try_decrement(counts, (cell * count + q) * 4 + d) {
-        return remove_and_propose(
-            count,
-            weights,
-            weighted,
-            noise,
-            cells,
-            cell,
-            q,
-            domains,
-            counts,
-            pending,
-            floats,
-            marks,
-            pile,
-        );
-    }
-    pile
-}
-
-// The same for each pattern of a list, in its order.
+// Takes one support from direction d from each pattern of a list at a cell, in its order; where it was the last, the pattern goes.
+// A visit that removes nothing touches one count.
 fn decrements(
     count: usize,
     weights: &[u32],
@@ -145,26 +102,29 @@ fn decrements(
         ≡ worklist.decrements count (watching (now (weights .entry)) (now (noise .entry)) cells) cell d (now (list .entry))
         (stateOf count (now (domains .entry)) (now (counts .entry)) (now (pending .entry)) pile (beside (now (floats .entry)) (now (marks .entry)))) ⌝ }
 {
+    let base = cell * count;
     let mut next = pile;
     let mut i = 0;
     while i < list.len() {
-        next = decrement(
-            count,
-            weights,
-            weighted,
-            noise,
-            cells,
-            cell,
-            d,
-            wide(list[i]),
-            domains,
-            counts,
-            pending,
-            floats,
-            marks,
-            next,
-        );
+        let q = wide(list[i]);
         i += 1;
+        if crate::num_ways::try_decrement(counts, (base + q) * 4 + d) {
+            next = remove_and_propose(
+                count,
+                weights,
+                weighted,
+                noise,
+                cells,
+                cell,
+                q,
+                domains,
+                counts,
+                pending,
+                floats,
+                marks,
+                next,
+            );
+        }
     }
     next
 }

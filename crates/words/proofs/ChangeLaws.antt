@@ -13,7 +13,7 @@ use Rattle.words.proofs.BitLaws.{half-lt, bit-zero, bit-suc, bit-fits, 
 
 -- ---- a pattern taken out
 
-without-suc : (w p : ℕ) → without w (suc p) ≡ without (w / 2) p * 2 + w % 2
+pub without-suc : (w p : ℕ) → without w (suc p) ≡ without (w / 2) p * 2 + w % 2
 unfolding without
 without-suc w p =
     let x = bit (w / 2) p * 2 ^ p in
@@ -21,7 +21,7 @@ without-suc w p =
     let e : bit w (suc p) * 2 ^ suc p ≡ x * 2 = ap₂ (λ (b c : ℕ). b * c) (bit-suc w p) (pow-succ' 2 p ∙ mul-comm 2 (2 ^ p)) ∙ sym (mul-assoc (bit (w / 2) p) (2 ^ p) 2) in
     rw e (omega arith)
 
-without-zero : (w : ℕ) → without w 0 ≡ w / 2 * 2
+pub without-zero : (w : ℕ) → without w 0 ≡ w / 2 * 2
 unfolding without
 without-zero w = omega (arith, bit-zero w)
 

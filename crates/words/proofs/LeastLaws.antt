@@ -1,18 +1,21 @@
--- Laws of a word's least pattern, over any width: trailing zeros name it, it is in the word and none below it is, and a decided word is that pattern alone.
+-- Laws of a word's least pattern, over any width: trailing zeros name it, it is in the word and none below it is,
+-- what a word shares with the number before it is the word without it, and a decided word is that pattern alone.
 -- Assumes nothing.
-use mathlib.Core.Bool.{Bool, true, false, cond}
+use mathlib.Core.Bool.{Bool, true, false, not, cond}
 use mathlib.Core.Path.{_≡_, refl, sym, ap, _∙_, subst}
-use Prim.Native.Nat.{ℕ, zero, suc, _/_, _%_, _^_, _≤_, _<_, suc-le-suc, zero-le}
+use Prim.Native.Nat.{ℕ, zero, suc, _+_, _-_, _/_, _%_, _^_, _≤_, _<_, suc-le-suc, zero-le}
 use native.Mathlib.Decide.{ℕ-discrete}
 use native.Mathlib.Nat.{mod-lt, le-of-suc-le-suc, not-suc-le-zero, zero-lt-suc, lt-irrefl, lt-trans, lt-of-not-le, le-antisymm, le-refl}
 use native.Mathlib.Omega.{arith}
 use lib.Arith.{lt-one}
+use lib.Bits.{bitAnd, and-step, and-self}
 use lib.Count.{trailingZeros, under}
-use lib.Dec.{lit<, eqb}
+use lib.Dec.{lit<, leb, eqb}
 use lib.Pow.{pow-mono}
+use borrow.Author.Tests.{eq-eqb, ne-eqb, le-leb, lt-leb}
 use Rattle.words.specs.Words.{bit, has, without, alone, howMany, leastFrom, least}
 use Rattle.words.proofs.BitLaws.{half-lt, bit-zero, bit-suc, bit-lt, bit-none, bit-below, bit-alone, bit-alone-other, alone-lt, word-ext}
-use Rattle.words.proofs.ChangeLaws.{bit-without-other, without-le}
+use Rattle.words.proofs.ChangeLaws.{without-suc, without-zero, bit-without-other, without-le}
 use Rattle.words.proofs.CountLaws.{many-without, many-zero, many-none}
 
 -- ---- the trailing zeros are the least pattern
@@ -107,6 +110,38 @@ least-unique k w p l at below =
   where
     clash : {x : ℕ} → x ≡ 1 → x ≡ 0 → ⊥
     clash a b = omega arith
+
+-- ---- the least pattern taken out
+
+zeros-out : (k w : ℕ) → 0 < w → w < 2 ^ k → bitAnd w (w - 1) ≡ without w (trailingZeros k w)
+unfolding trailingZeros
+zeros-out zero w p h = absurd (omega (arith, lt-one h))
+zeros-out (suc k) w p h = go (λ q. zeros-out k (w / 2) q (half-lt k h)) (w % 2) refl
+  where
+    go : (0 < w / 2 → bitAnd (w / 2) (w / 2 - 1) ≡ without (w / 2) (trailingZeros k (w / 2))) → (d : ℕ) → w % 2 ≡ d → bitAnd w (w - 1) ≡ without w (under d (trailingZeros k (w / 2)))
+    go rest zero e =
+        let half : (w - 1) / 2 ≡ w / 2 - 1 = omega arith in
+        omega (arith, and-step w (w - 1), ap (bitAnd (w / 2)) half, rest (omega arith), without-suc w (trailingZeros k (w / 2)))
+    go rest (suc d) e =
+        let half : (w - 1) / 2 ≡ w / 2 = omega arith in
+        omega (arith, and-step w (w - 1), ap (bitAnd (w / 2)) half, and-self (w / 2), without-zero w)
+
+-- what a word shares with the number before it
+pub pred-without : (k w : ℕ) → 0 < w → w < 2 ^ k → bitAnd w (w - 1) ≡ without w (least k w)
+pred-without k w p h = zeros-out k w p h ∙ ap (without w) (zeros-least k w)
+
+-- something is left without the least pattern exactly where the word has two or more
+pub left-several : (k w : ℕ) → 0 < w → w < 2 ^ k → not (eqb (without w (least k w)) 0) ≡ leb 2 (howMany k w)
+left-several k w p h = go (ℕ-discrete (without w (least k w)) 0)
+  where
+    one-less : howMany k (without w (least k w)) + 1 ≡ howMany k w
+    one-less = omega (arith, many-without k w (least k w) (least-lt k w p h), least-in k w (least-lt k w p h))
+
+    go : Dec (without w (least k w) ≡ 0) → not (eqb (without w (least k w)) 0) ≡ leb 2 (howMany k w)
+    go (yes e) = rw (eq-eqb _ _ e, lt-leb 2 (howMany k w) (omega (arith, one-less, ap (howMany k) e, many-none k)))
+    go (no n) =
+        let some : howMany k (without w (least k w)) ≡ 0 → ⊥ = λ z. n (many-zero k (without w (least k w)) (omega (arith, without-le w (least k w))) z) in
+        rw (ne-eqb _ _ n, le-leb 2 (howMany k w) (omega (arith, one-less, some)))
 
 -- ---- a decided word
 

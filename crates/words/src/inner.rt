@@ -2,6 +2,7 @@
 ghost use mathlib.Core.Path.{_≡_};
 ghost use Prim.Native.Nat.{_^_, _≤_, _<_};
 ghost use lib.Bits.{bitAnd};
+ghost use lib.Dec.{leb};
 ghost use Rattle.words.specs.Words.{has, without, joined, alone, full, lacked, beyond, howMany, least};
 
 // Whether pattern p is in the word.
@@ -83,6 +84,24 @@ pub fn next_pattern(word: u64) -> usize
     ensures { λ r. ⌜ r ≡ least 64 word ⌝ }
 {
     u64::trailing_zeros(word) as usize
+}
+
+// The word without its least pattern: what it shares with the number before it.
+pub fn without_least(word: u64) -> u64
+    requires { ⌜ 0 < word ⌝ }
+    ensures { λ r. ⌜ r ≡ without word (least 64 word) ⌝ }
+{
+    word & (word - 1)
+}
+
+// Whether the word has two patterns or more; nothing is counted.
+pub fn several(word: u64) -> bool
+    ensures { λ r. ⌜ r ≡ leb 2 (howMany 64 word) ⌝ }
+{
+    if word == 0 {
+        return false;
+    }
+    without_least(word) != 0
 }
 
 // The patterns that are in both words.

@@ -46,8 +46,8 @@ pub(crate) fn floats_to_lend() -> [f32; 2048]
     [0.0; 2048]
 }
 
-pub(crate) fn marks_to_lend() -> [u8; 2048]
-    ensures { λ r. ⌜ 2048 ≡ length r ⌝ }
+pub(crate) fn marks_to_lend() -> [u8; 2080]
+    ensures { λ r. ⌜ 2080 ≡ length r ⌝ }
 {
-    [0; 2048]
+    [0; 2080]
 }

@@ -68,7 +68,7 @@ fn run_in(
         &mut counts[..4 * places],
         &mut pending[..places],
         &mut floats[..2 * cells],
-        &mut marks[..2 * cells],
+        &mut marks[..2 * cells + (cells + 31) / 32],
         out,
     );
     laid_as(answer, cells)

@@ -48,17 +48,17 @@ add-sum c =
     let a = c .before .before .before .before .before .args in
     omega (arith, next (c .before), weightSum-le (a .weights .now) (a .word))
 
-without-pattern-requires : tie.Need-without-pattern-requires Inv-loop μ-loop
-without-pattern-requires c κs = omega (arith, next (c .before))
+without-least-requires : tie.Need-without-least-requires Inv-loop μ-loop
+without-least-requires c κs = omega (arith, c .before .before .loop-test .taken)
 
 loop-less : tie.Need-loop-less Inv-loop μ-loop
 loop-less c =
-    rw (c .without-pattern .ensures) (without-less _ _ (next (c .before .before) .1))
+    rw (c .without-least .ensures, ← c .before .before .next-pattern .ensures) (without-less _ _ (next (c .before .before) .1))
 
 loop-again : tie.Need-loop-again Inv-loop μ-loop
 loop-again c =
     let turn = next (c .before .before) in
-    rw (c .without-pattern .ensures) (omega (arith, turn, without-less _ _ (turn .1)))
+    rw (c .without-least .ensures, ← c .before .before .next-pattern .ensures) (omega (arith, turn, without-less _ _ (turn .1)))
 
 returns : tie.Need-returns Inv-loop μ-loop
 returns c =
@@ -76,7 +76,7 @@ weight-sum-spec =
     mul-sum
     shared-slice-read-sum
     add-sum
-    without-pattern-requires
+    without-least-requires
     loop-less
     loop-again
     returns)

@@ -1,10 +1,10 @@
 -- `choice::inner::choose` meets its contract: at each turn what is left takes what the whole takes, and the word that is left falls.
 -- Assumes nothing.
-use mathlib.Core.Path.{_≡_}
+use mathlib.Core.Path.{_≡_, sym, ap, _∙_}
 use Prim.Native.Nat.{_<_}
 use native.Mathlib.Omega.{arith}
 use lib.ListN.{length}
-use Rattle.words.specs.Words.{bit}
+use Rattle.words.specs.Words.{bit, without}
 use Rattle.words.proofs.ChangeLaws.{without-less}
 use Rattle.choice.proofs.ChoiceLaws.{Walked, walked-start, walked-at, walked-on, walked-end}
 use Rattle.choice.proofs.inner.choose.Statement.{statement}
@@ -41,19 +41,25 @@ shared-slice-read-r c = at (c .before .before .before) .0
 sub-r : tie.Need-sub-r Inv-loop μ-loop
 sub-r c = omega arith
 
-without-pattern-requires : tie.Need-without-pattern-requires Inv-loop μ-loop
-without-pattern-requires c κs = omega (arith, at (c .before .before .before))
+without-least-requires : tie.Need-without-least-requires Inv-loop μ-loop
+without-least-requires c κs = omega (arith, without-less _ _ (at (c .before .before .before) .1))
 
 next-pattern-requires-2 : tie.Need-next-pattern-requires-2 Inv-loop μ-loop
 next-pattern-requires-2 c κs = tt
 
+-- the pattern taken away is p
+taken-away : (c : tie.After-without-least Inv-loop μ-loop) → let head = c .before .before .before .before in c .without-least .result ≡ without (head .loop .left) (head .loop .p)
+taken-away c =
+    let head = c .before .before .before .before in
+    c .without-least .ensures ∙ ap (without (head .loop .left)) (sym (head .loop .inv .next))
+
 loop-less : tie.Need-loop-less Inv-loop μ-loop
-loop-less c = rw (c .before .without-pattern .ensures) (without-less _ _ (at (c .before .before .before .before .before) .1))
+loop-less c = rw (taken-away (c .before)) (without-less _ _ (at (c .before .before .before .before .before) .1))
 
 loop-again : tie.Need-loop-again Inv-loop μ-loop
 loop-again c =
     let head = c .before .before .before .before .before in
-    walked-on (head .before .before .before .pre .0 .few) (head .loop .inv) (c .before .before .before .if1 .taken) (c .before .without-pattern .ensures) (c .next-pattern2 .ensures)
+    walked-on (head .before .before .before .pre .0 .few) (head .loop .inv) (c .before .before .before .if1 .taken) (taken-away (c .before)) (c .next-pattern2 .ensures)
 
 returns : tie.Need-returns Inv-loop μ-loop
 returns c = let head = c .before .before in walked-end (head .before .before .before .pre .0 .few) (head .loop .inv) (c .if1 .left)
@@ -71,7 +77,7 @@ choose-spec =
     mul-r
     shared-slice-read-r
     sub-r
-    without-pattern-requires
+    without-least-requires
     next-pattern-requires-2
     loop-less
     loop-again

@@ -1,12 +1,13 @@
 -- `bounded::inner::running::run_in` meets its contract: what is lent is as long as a run wants it, so only the noise can be refused.
 -- Assumes nothing.
 use mathlib.Core.Path.{refl, sym}
-use Prim.Native.Nat.{_*_}
+use Prim.Native.Nat.{_+_, _*_}
 use native.Mathlib.Omega.{arith}
 use lib.ListN.{take}
 use lib.Seq.{length-take-le}
 use Rattle.adjacency.specs.Tables.{table}
 use Rattle.grid.specs.Grid.{grid}
+use Rattle.logarithms.specs.Blocks.{blocks}
 use Rattle.run.specs.Run.{given}
 use Rattle.run.specs.Called.{memory}
 use Rattle.bounded.proofs.RunLaws.{lay-ran, runnable-few, lent-measured}
@@ -94,7 +95,7 @@ returns c =
     let marks = c .before .before .before .before .before .before .before .before .before .before .before .before .before .before .before .before .marks-to-lend in
     let n = a .height * a .width in
     let small = runnable-few (pre .0) in
-    let lent = memory (take n (a .domains .now)) (take (4 * (n * a .count)) (counts .result)) (take (n * a .count) (pending .result)) (take (2 * n) (floats .result)) (take (2 * n) (marks .result)) in
+    let lent = memory (take n (a .domains .now)) (take (4 * (n * a .count)) (counts .result)) (take (n * a .count) (pending .result)) (take (2 * n) (floats .result)) (take (2 * n + blocks n) (marks .result)) in
     let M = lent-measured n (a .count) (a .domains .now) (counts .result) (pending .result) (floats .result) (marks .result) small (pre .0 .small) (pre .1) (counts .ensures) (pending .ensures) (floats .ensures) (marks .ensures) in
     lay-ran (given (table (a .count) (a .offsets .now) (a .ids .now)) (a .weights .now) (grid (a .width) (a .height) (a .mode)) (a .noise .now)) (a .forbids .now) (pre .0) lent M (a .out .now) (omega (arith, small, pre .2)) (a .words .now) (a .domains .now) refl (omega (arith, run .kept .1 .1 .1 .1 .1 .1 .1 .1 .1 .1 .0)) (run .ensures) (c .laid-as .ensures)
 
