@@ -1,23 +1,31 @@
--- Laws of an answer as one number: it is small enough for 64 bits, and no two answers have the same.
--- Follows docs/RULES.md, "Run" and "Refusals". Assumes nothing.
-use mathlib.Core.List.{List}
+-- Laws of an answer as one number: the number of each case, by what the answer tells. Follows docs/RULES.md, "Refusals". Assumes nothing.
+use mathlib.Core.Option.{Option, none, some}
 use mathlib.Core.Path.{_≡_, refl, sym, ap, subst, _∙_}
-use Prim.Native.Nat.{ℕ, zero, suc, _+_, _*_, _≤_}
-use native.Mathlib.Nat.{le-antisymm, le-of-suc-le-suc, lt-of-not-le}
+use Prim.Native.Nat.{ℕ, _+_, _*_, _≤_, _<_}
 use native.Mathlib.Omega.{arith}
+use lib.Ieee.{Float, binary32, toBits}
 use Rattle.refusals.specs.declared.Refusal.{Refusal}
-use Rattle.refusals.specs.Refusals.{number, firstOf, Asked, refused, answer}
-use Rattle.run.specs.declared.Forbid.{Forbid}
+use Rattle.refusals.specs.Refusals.{number, Asked, refused, answer}
+use Rattle.propagation.specs.declared.Propagated.{Propagated}
+use Rattle.propagation.specs.Propagate.{propagatedTold}
 use Rattle.run.specs.declared.Answer.{Answer}
 use Rattle.run.specs.declared.Answer.the-variants.{Decided, Undecided, Paused, Contradiction, Refused}
-use Rattle.run.specs.Run.{Given, Ended, runOf}
-use Rattle.run.specs.Called.{End, Memory, Outcome, testsOf, outcome, answerTold, finished, calledOf}
-use Rattle.ocean_c.specs.Coded.{coded, usedIn, Returned, returned, returnedOf}
-use Rattle.refusals.proofs.RefusalLaws.{number-positive, number-most}
-use Rattle.run.proofs.CalledLaws.{called-granted, called-accepted, refused-same, answerTold-injective}
-use Rattle.run.proofs.CourseLaws.{run-final, used-choices}
+use Rattle.run.specs.Called.{End, answerTold}
+use Rattle.sheet.specs.declared.Measures.{Measures}
+use Rattle.sheet.specs.declared.SizesAnswer.{SizesAnswer}
+use Rattle.sheet.specs.declared.Written.{Written}
+use Rattle.sheet.specs.Called.{sizesTold, writtenTold}
+use Rattle.ocean_c.specs.Coded.{cased, coded, foundCoded, entropyCoded, settledCoded, bytesCoded, acceptedCoded, usedIn, bytesIn}
+use Rattle.propagation.specs.declared.Propagated.the-variants as propagated
+use Rattle.sheet.specs.declared.SizesAnswer.the-variants as sizes
+use Rattle.sheet.specs.declared.Written.the-variants as written
 
--- ---- the number of each answer
+-- the number as the code makes it
+pub cased-is : (case value : ℕ) → 256 * case + 4294967296 * value ≡ cased case value
+unfolding cased
+cased-is case value = refl
+
+-- ---- a run
 
 abbrev endOf : ℕ → ℕ → Asked End
 endOf end used = answer (record { end = end; used = used })
@@ -44,85 +52,74 @@ unfolding answerTold coded
 refused-coded e k = k ∙ sym (ap (λ (x : Answer). coded (answerTold x)) e)
 
 -- an end with so many words used, of an answer that tells it
-pub end-few : {a : Asked End} {end used : ℕ} → a ≡ endOf end used → usedIn a ≤ 1024 → used ≤ 1024
+pub end-few : {a : Asked End} {end used : ℕ} → a ≡ endOf end used → usedIn a ≤ 1024 → used < 4294967296
 unfolding usedIn
-end-few e h = subst (λ (x : Asked End). usedIn x ≤ 1024) e h
+end-few {a} {end} {used} e h = let few : used ≤ 1024 = subst (λ (x : Asked End). usedIn x ≤ 1024) e h in omega (arith, few)
 
-pub end-coded : {a : Asked End} {end used n : ℕ} → a ≡ endOf end used → n ≡ coded (endOf end used) → n ≡ coded a
+pub end-coded : {a : Asked End} {end used n : ℕ} → a ≡ endOf end used → n ≡ cased end used → n ≡ coded a
+unfolding coded
 end-coded e k = k ∙ sym (ap coded e)
 
--- the number as the code makes it
-pub coded-end : (end used : ℕ) → 256 * end + 4294967296 * used ≡ coded (endOf end used)
-unfolding coded
-coded-end end used = refl
+-- ---- what is asked apart from a run
 
--- ---- the number tells the answer whole
+pub found-coded : {o : Asked (Option ℕ)} {k n : ℕ} → answer (some k) ≡ o → n ≡ cased 0 k → n ≡ foundCoded o
+unfolding foundCoded
+found-coded is e = e ∙ ap foundCoded is
 
--- what an answer tells: the number of a refusal, or one of four ends
-pub Sound : Asked End → Type 0
-Sound (refused n) = (1 ≤ n) × (n ≤ 11)
-Sound (answer e) = e .end ≤ 3
+pub none-coded : {o : Asked (Option ℕ)} {n : ℕ} → answer none ≡ o → n ≡ cased 1 0 → n ≡ foundCoded o
+unfolding foundCoded
+none-coded is e = e ∙ ap foundCoded is
 
--- equal numbers of two ends: the one used no more words than the other
-no-more : (x y : End) → x .end ≤ 3 → y .end ≤ 3 → coded (answer x) ≡ coded (answer y) → x .used ≤ y .used
-unfolding coded
-no-more x y h h′ e = le-of-suc-le-suc (lt-of-not-le (λ more. omega (arith, h, h′, e, more)))
+pub unfound-coded : {o : Asked (Option ℕ)} {k n : ℕ} → refused k ≡ o → n ≡ k → n ≡ foundCoded o
+unfolding foundCoded
+unfound-coded is e = e ∙ ap foundCoded is
 
-pub coded-injective : (a b : Asked End) → Sound a → Sound b → coded a ≡ coded b → a ≡ b
-unfolding coded Sound
-coded-injective (refused n) (refused k) h h′ e = ap refused e
-coded-injective (refused n) (answer x) h h′ e = absurd (omega (arith, h .0, h .1, e))
-coded-injective (answer x) (refused k) h h′ e = absurd (omega (arith, h′ .0, h′ .1, e))
-coded-injective (answer x) (answer y) h h′ e =
-    let words = le-antisymm (no-more x y h h′ e) (no-more y x h′ h (sym e)) in
-    let ends : x .end ≡ y .end = omega (arith, e, words) in
-    λ j. endOf (ends j) (words j)
+pub entropy-coded : {o : Asked (Option Float)} {x : Float} {n : ℕ} → answer (some x) ≡ o → n ≡ cased 0 (toBits binary32 x) → n ≡ entropyCoded o
+unfolding entropyCoded
+entropy-coded is e = e ∙ ap entropyCoded is
 
-told-sound : (a : Answer) → Sound (answerTold a)
-unfolding answerTold Sound
-told-sound (Decided used) = omega arith
-told-sound (Undecided used) = omega arith
-told-sound (Paused used) = omega arith
-told-sound (Contradiction used) = omega arith
-told-sound (Refused r) = (omega (arith, number-positive r), number-most r)
+pub no-entropy-coded : {o : Asked (Option Float)} {n : ℕ} → answer none ≡ o → n ≡ cased 1 0 → n ≡ entropyCoded o
+unfolding entropyCoded
+no-entropy-coded is e = e ∙ ap entropyCoded is
 
--- two answers with one number are the same
-pub answer-coded : (a b : Answer) → coded (answerTold a) ≡ coded (answerTold b) → a ≡ b
-answer-coded a b e = answerTold-injective a b (coded-injective (answerTold a) (answerTold b) (told-sound a) (told-sound b) e)
+pub unasked-coded : {o : Asked (Option Float)} {k n : ℕ} → refused k ≡ o → n ≡ k → n ≡ entropyCoded o
+unfolding entropyCoded
+unasked-coded is e = e ∙ ap entropyCoded is
 
--- ---- of a call
+-- ---- propagation
 
--- a call uses at most 1,024 words
-module _ (lent : ℕ) (i : Given) (fs : List Forbid) (words : List ℕ) (m : Memory) where
-  finished-used : (e : Ended) → usedIn (finished e m .told) ≡ e .used
-  unfolding finished usedIn
-  finished-used e = refl
+pub consistent-coded : {a : Propagated} {n : ℕ} → a ≡ propagated.Consistent → n ≡ cased 0 0 → n ≡ settledCoded (propagatedTold a)
+unfolding settledCoded propagatedTold
+consistent-coded e k = k ∙ sym (ap (λ (x : Propagated). settledCoded (propagatedTold x)) e)
 
-  refused-used : (n : ℕ) → usedIn (outcome (refused n) m .told) ≡ 0
-  unfolding usedIn
-  refused-used n = refl
+pub contradiction-coded : {a : Propagated} {n : ℕ} → a ≡ propagated.Contradiction → n ≡ cased 1 0 → n ≡ settledCoded (propagatedTold a)
+unfolding settledCoded propagatedTold
+contradiction-coded e k = k ∙ sym (ap (λ (x : Propagated). settledCoded (propagatedTold x)) e)
 
-  pub called-few : usedIn (calledOf lent i fs words m .told) ≤ 1024
-  called-few = go (firstOf (testsOf lent i fs m)) refl
-    where
-      go : (n : ℕ) → firstOf (testsOf lent i fs m) ≡ n → usedIn (calledOf lent i fs words m .told) ≤ 1024
-      go zero e =
-          let G = called-granted lent i fs m e in
-          let U = used-choices i fs (G .lawful) words (run-final i fs (G .lawful) words) in
-          rw (called-accepted lent i fs words m e, finished-used (runOf i fs words)) (omega (arith, U .1, G .sized .few))
-      go (suc n) e = rw (refused-same lent i fs words m n e, refused-used (suc n)) (omega arith)
+pub unsettled-coded : {a : Propagated} {r : Refusal} {n : ℕ} → a ≡ propagated.Refused r → n ≡ number r → n ≡ settledCoded (propagatedTold a)
+unfolding settledCoded propagatedTold
+unsettled-coded e k = k ∙ sym (ap (λ (x : Propagated). settledCoded (propagatedTold x)) e)
 
-  -- what the call tells is used so
-  pub told-few : {told : Asked End} {m′ : Memory} → outcome told m′ ≡ calledOf lent i fs words m → usedIn told ≤ 1024
-  told-few e = subst (λ (o : Outcome). usedIn (o .told) ≤ 1024) (sym e) called-few
+-- ---- a sheet that is read
 
-  -- and returned as a number
-  pub told-returned : {told : Asked End} {m′ : Memory} {code : ℕ} → outcome told m′ ≡ calledOf lent i fs words m → code ≡ coded told
-      → returned code m′ ≡ returnedOf (calledOf lent i fs words m)
-  unfolding returnedOf
-  told-returned {told} {m′} e c = ap (λ (n : ℕ). returned n m′) c ∙ ap returnedOf e
+pub read-coded : {a : SizesAnswer} {m : Measures} → a ≡ sizes.Sheet m → 0 ≡ acceptedCoded (sizesTold a)
+unfolding acceptedCoded sizesTold
+read-coded e = sym (ap (λ (x : SizesAnswer). acceptedCoded (sizesTold x)) e)
 
--- ---- no second outcome fits
+pub unread-coded : {a : SizesAnswer} {r : Refusal} {n : ℕ} → a ≡ sizes.Refused r → n ≡ number r → n ≡ acceptedCoded (sizesTold a)
+unfolding acceptedCoded sizesTold
+unread-coded e k = k ∙ sym (ap (λ (x : SizesAnswer). acceptedCoded (sizesTold x)) e)
 
-pub murghidossu-run-unique : (x : Returned) (a b : ℕ) (m₁ m₂ : Memory) → returned a m₁ ≡ x → returned b m₂ ≡ x → (a ≡ b) × (m₁ ≡ m₂)
-murghidossu-run-unique x a b m₁ m₂ p q = (ap (λ (y : Returned). y .code) (p ∙ sym q), ap (λ (y : Returned). y .memory) (p ∙ sym q))
+-- ---- a sheet that is written
+
+pub bytes-few : {a : Written} {bytes : ℕ} → a ≡ written.Bytes bytes → bytesIn (writtenTold a) ≤ 41376 → bytes < 4294967296
+unfolding bytesIn writtenTold
+bytes-few {a} {bytes} e h = let few : bytes ≤ 41376 = subst (λ (x : Written). bytesIn (writtenTold x) ≤ 41376) e h in omega (arith, few)
+
+pub written-coded : {a : Written} {bytes n : ℕ} → a ≡ written.Bytes bytes → n ≡ cased 0 bytes → n ≡ bytesCoded (writtenTold a)
+unfolding bytesCoded writtenTold
+written-coded e k = k ∙ sym (ap (λ (x : Written). bytesCoded (writtenTold x)) e)
+
+pub unwritten-coded : {a : Written} {r : Refusal} {n : ℕ} → a ≡ written.Refused r → n ≡ number r → n ≡ bytesCoded (writtenTold a)
+unfolding bytesCoded writtenTold
+unwritten-coded e k = k ∙ sym (ap (λ (x : Written). bytesCoded (writtenTold x)) e)

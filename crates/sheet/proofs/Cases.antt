@@ -115,7 +115,7 @@ empty-refused = refl
 abbrev smallestRun : ℕ → ResultOutcome
 smallestRun n =
     resultCalled (given (tableOf smallest) (1 ∷ []) (grid 1 1 0) (0 ∷ [])) [] []
-    (memory (7 ∷ []) (replicate 4 7) (7 ∷ []) (replicate 2 (ofBits binary32 0)) (replicate 2 7)) (replicate n 7)
+    (memory (7 ∷ []) (replicate 4 7) (7 ∷ []) (replicate 2 (ofBits binary32 0)) (replicate 3 7)) (replicate n 7)
 
 -- an output of 20 bytes keeps the last two; one of 17 is too short, and stays
 pub smallest-run : (smallestRun 20 .run .told ≡ answer (record { end = 0; used = 0 })) × (smallestRun 20 .out ≡ smallestResult ++ (7 ∷ 7 ∷ []))

@@ -66,6 +66,12 @@ slice-aggregate-run-result-4 c = sym (length-take-le _ _ (omega (arith, runnable
 mul-marks : tie.Need-mul-marks
 mul-marks c = omega (arith, runnable-few (c .before .before .before .before .before .before .before .before .before .before .before .before .before .before .before .before .pre .0))
 
+add-marks : tie.Need-add-marks
+add-marks c = omega (arith, runnable-few (c .before .before .before .before .before .before .before .before .before .before .before .before .before .before .before .before .pre .0))
+
+add-marks-2 : tie.Need-add-marks-2
+add-marks-2 c = omega (arith, runnable-few (c .before .before .before .before .before .before .before .before .before .before .before .before .before .before .before .before .pre .0))
+
 array-borrow-prefix-marks : tie.Need-array-borrow-prefix-marks
 array-borrow-prefix-marks c = omega (arith, runnable-few (c .before .before .before .before .before .before .before .before .before .before .before .before .before .before .before .before .pre .0), c .before .before .before .before .marks-to-lend .ensures)
 
@@ -120,6 +126,8 @@ run-in-spec =
     array-borrow-prefix-floats
     slice-aggregate-run-result-4
     mul-marks
+    add-marks
+    add-marks-2
     array-borrow-prefix-marks
     slice-aggregate-run-result-5
     run-result-requires

@@ -1,9 +1,10 @@
--- `ocean_c::murghidossu_run` meets its contract: the call comes to what `run_numbers` comes to, with its answer as a number.
+-- `ocean_c::laying::murghidossu_run` meets its contract: the call comes to what `run_numbers` comes to, with its answer as a number.
 -- Assumes nothing.
 use borrow.Author.Needs.{needs}
-use Rattle.ocean_c.proofs.CodeLaws.{told-few, told-returned}
-use Rattle.ocean_c.proofs.murghidossu_run.Statement.{statement}
-use Rattle.ocean_c.proofs.murghidossu_run.Tie as tie
+use Rattle.ocean_c.proofs.BoundLaws.{told-few}
+use Rattle.ocean_c.proofs.ReturnedLaws.{run-returned}
+use Rattle.ocean_c.proofs.laying.murghidossu_run.Statement.{statement}
+use Rattle.ocean_c.proofs.laying.murghidossu_run.Tie as tie
 
 run-numbers-requires : tie.Need-run-numbers-requires
 run-numbers-requires c κs = search needs
@@ -27,7 +28,7 @@ same-length-5 : tie.Need-same-length-5
 same-length-5 c = search needs
 
 returns : tie.Need-returns
-returns c = told-returned _ _ _ _ _ (c .before .before .before .before .before .before .before .before .before .before .before .run-numbers .ensures) (c .code-of .ensures)
+returns c = run-returned (c .before .before .before .before .before .before .before .before .before .before .before .run-numbers .ensures) (c .code-of .ensures)
 
 pub murghidossu-run-spec : {M : Type 1} → statement M
 murghidossu-run-spec =
