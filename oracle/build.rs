@@ -16,9 +16,13 @@ fn main() {
     println!("cargo:rerun-if-changed={}", PUBLISHED);
 
     let root = env::var("CARGO_MANIFEST_DIR").expect("this folder");
-    let archives = format!("{}/../target/staticlib", root);
+    // bench/run has them elsewhere where the machine is not x86-64
+    println!("cargo:rerun-if-env-changed=MURGHIDOSSU_ARCHIVES");
+    let archives = env::var("MURGHIDOSSU_ARCHIVES").unwrap_or(format!("{}/../target/staticlib", root));
     println!("cargo:rustc-link-search=native={}", archives);
-    for name in ["ocean_c", "trace_c"].iter() {
+    let traced = env::var("CARGO_FEATURE_TRACE").is_ok();
+    let names: &[&str] = if traced { &["ocean_c", "trace_c"] } else { &["ocean_c"] };
+    for name in names {
         println!("cargo:rustc-link-lib=static={}", name);
         println!("cargo:rerun-if-changed={}/lib{}.a", archives, name);
     }

@@ -27,3 +27,5 @@ pub mod minimise;
 pub mod numbers;
 pub mod ours;
 pub mod rules;
+#[cfg(feature = "trace")]
+pub mod told;

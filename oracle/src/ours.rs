@@ -1,6 +1,6 @@
-//! Murghidossu's side: the run and the trace of its choices, from two static libraries, called as a C program calls them.
+//! Murghidossu's side: a run from a static library, called as a C program calls it.
 
-use crate::cases::{Case, Choice, Ended, Room, Told};
+use crate::cases::Case;
 
 extern "C" {
     // each slice is a pointer and how many entries there are
@@ -32,174 +32,20 @@ extern "C" {
         marks: *mut u8,
         marks_len: usize,
     ) -> u64;
-    fn murghidossu_trace(
-        forbids: *const u32,
-        forbids_len: usize,
-        count: usize,
-        width: usize,
-        height: usize,
-        mode: usize,
-        weights: *const u32,
-        weights_len: usize,
-        offsets: *const u32,
-        offsets_len: usize,
-        ids: *const u8,
-        ids_len: usize,
-        noise: *const u32,
-        noise_len: usize,
-        words: *const u32,
-        words_len: usize,
-        places: *mut u32,
-        places_len: usize,
-        entropies: *mut f32,
-        entropies_len: usize,
-        domains: *mut u64,
-        domains_len: usize,
-        counts: *mut u8,
-        counts_len: usize,
-        pending: *mut u32,
-        pending_len: usize,
-        floats: *mut f32,
-        floats_len: usize,
-        marks: *mut u8,
-        marks_len: usize,
-    ) -> usize;
 }
 
-/// Lent memory with entries before and behind it that no call may touch.
-struct Lent<T> {
-    all: Vec<T>,
-    old: T,
+/// The five slices that a run writes, as they are lent.
+pub struct Slices<'a> {
+    pub domains: &'a mut [u64],
+    pub counts: &'a mut [u8],
+    pub pending: &'a mut [u32],
+    pub floats: &'a mut [f32],
+    pub marks: &'a mut [u8],
 }
 
-const FENCE: usize = 8;
-
-impl<T: Copy> Lent<T> {
-    fn new(length: usize, old: T) -> Self {
-        Self {
-            all: vec![old; length + 2 * FENCE],
-            old,
-        }
-    }
-    fn length(&self) -> usize {
-        self.all.len() - 2 * FENCE
-    }
-    fn pointer(&mut self) -> *mut T {
-        self.all[FENCE..].as_mut_ptr()
-    }
-    fn lent(&self) -> &[T] {
-        &self.all[FENCE..FENCE + self.length()]
-    }
-}
-
-/// The bits of an entry.
-trait Bits: Copy {
-    fn bits(self) -> u64;
-}
-impl Bits for u8 {
-    fn bits(self) -> u64 {
-        self as u64
-    }
-}
-impl Bits for u32 {
-    fn bits(self) -> u64 {
-        self as u64
-    }
-}
-impl Bits for u64 {
-    fn bits(self) -> u64 {
-        self
-    }
-}
-impl Bits for f32 {
-    fn bits(self) -> u64 {
-        self.to_bits() as u64
-    }
-}
-
-impl<T: Bits> Lent<T> {
-    fn fenced(&self) -> bool {
-        let same = |x: &T| x.bits() == self.old.bits();
-        self.all[..FENCE].iter().all(same) && self.all[FENCE + self.length()..].iter().all(same)
-    }
-    fn unchanged(&self) -> bool {
-        self.all.iter().all(|x| x.bits() == self.old.bits())
-    }
-    fn zero(&self) -> bool {
-        self.lent().iter().all(|x| x.bits() == 0)
-    }
-}
-
-/// The five slices that a run writes, with old content in them.
-struct Memory {
-    domains: Lent<u64>,
-    counts: Lent<u8>,
-    pending: Lent<u32>,
-    floats: Lent<f32>,
-    marks: Lent<u8>,
-}
-
-impl Memory {
-    fn new(room: &Room) -> Self {
-        Self {
-            domains: Lent::new(room.domains, 0xa5a5_5a5a_dead_beef),
-            counts: Lent::new(room.counts, 0x5a),
-            pending: Lent::new(room.pending, 0xdead_beef),
-            floats: Lent::new(room.floats, f32::from_bits(0x7fc1_2345)),
-            marks: Lent::new(room.marks, 0xa5),
-        }
-    }
-    fn fenced(&self) -> bool {
-        let halves = self.domains.fenced() && self.counts.fenced() && self.pending.fenced();
-        halves && self.floats.fenced() && self.marks.fenced()
-    }
-    fn unchanged(&self) -> bool {
-        let halves = self.domains.unchanged() && self.counts.unchanged() && self.pending.unchanged();
-        halves && self.floats.unchanged() && self.marks.unchanged()
-    }
-    fn worked_off(&self) -> bool {
-        self.counts.zero() && self.pending.zero() && self.floats.zero() && self.marks.zero()
-    }
-}
-
-/// What a call comes to, with its choices, or what it did to lent memory that no call may do.
-pub fn told(case: &Case) -> Result<Told, &'static str> {
-    let mut memory = Memory::new(&case.room);
-    let code = run(case, &mut memory);
-    // the refusal's number in the lowest byte, the end above it, the words used in the upper half
-    let (refusal, end, used) = (
-        (code & 255) as u32,
-        (code >> 8 & 0xff_ffff) as u32,
-        (code >> 32) as usize,
-    );
-    if !memory.fenced() {
-        return Err("memory beside what was lent is changed");
-    }
-    if refusal != 0 {
-        if !memory.unchanged() {
-            return Err("refused, and lent memory is changed");
-        }
-        return if end == 0 && used == 0 {
-            Ok(Told::Refused(refusal))
-        } else {
-            Err("refused, with an end")
-        };
-    }
-    if !memory.worked_off() {
-        return Err("accepted, and work memory is not zero");
-    }
-    let domains = memory.domains.lent().to_vec();
-    let choices = trace(case).ok_or("memory beside what was lent for the choices is changed")?;
-    Ok(Told::Ended(Ended {
-        end,
-        used,
-        domains,
-        choices,
-    }))
-}
-
-fn run(case: &Case, m: &mut Memory) -> u64 {
-    unsafe {
+/// One call, and nothing else: the refusal's number, the end, and how many words were used.
+pub fn run(case: &Case, m: Slices) -> (u32, u32, usize) {
+    let code = unsafe {
         murghidossu_run(
             case.forbids.as_ptr(),
             case.forbids.len(),
@@ -217,67 +63,22 @@ fn run(case: &Case, m: &mut Memory) -> u64 {
             case.noise.len(),
             case.words.as_ptr(),
             case.words.len(),
-            m.domains.pointer(),
-            m.domains.length(),
-            m.counts.pointer(),
-            m.counts.length(),
-            m.pending.pointer(),
-            m.pending.length(),
-            m.floats.pointer(),
-            m.floats.length(),
-            m.marks.pointer(),
-            m.marks.length(),
-        )
-    }
-}
-
-/// The choices of a run that is not refused.
-fn trace(case: &Case) -> Option<Vec<Choice>> {
-    let mut m = Memory::new(&case.room);
-    let mut places = Lent::new(2 * case.words.len(), 0u32);
-    let mut entropies = Lent::new(case.words.len(), 0f32);
-    let made = unsafe {
-        murghidossu_trace(
-            case.forbids.as_ptr(),
-            case.forbids.len(),
-            case.count,
-            case.width,
-            case.height,
-            case.mode,
-            case.weights.as_ptr(),
-            case.weights.len(),
-            case.offsets.as_ptr(),
-            case.offsets.len(),
-            case.ids.as_ptr(),
-            case.ids.len(),
-            case.noise.as_ptr(),
-            case.noise.len(),
-            case.words.as_ptr(),
-            case.words.len(),
-            places.pointer(),
-            places.length(),
-            entropies.pointer(),
-            entropies.length(),
-            m.domains.pointer(),
-            m.domains.length(),
-            m.counts.pointer(),
-            m.counts.length(),
-            m.pending.pointer(),
-            m.pending.length(),
-            m.floats.pointer(),
-            m.floats.length(),
-            m.marks.pointer(),
-            m.marks.length(),
+            m.domains.as_mut_ptr(),
+            m.domains.len(),
+            m.counts.as_mut_ptr(),
+            m.counts.len(),
+            m.pending.as_mut_ptr(),
+            m.pending.len(),
+            m.floats.as_mut_ptr(),
+            m.floats.len(),
+            m.marks.as_mut_ptr(),
+            m.marks.len(),
         )
     };
-    let choice = |k: usize| Choice {
-        cell: places.lent()[2 * k] as usize,
-        entropy: entropies.lent()[k].to_bits(),
-        pattern: places.lent()[2 * k + 1] as usize,
-    };
-    if m.fenced() && places.fenced() && entropies.fenced() {
-        Some((0..made).map(choice).collect())
-    } else {
-        None
-    }
+    // the refusal's number in the lowest byte, the end above it, the words used in the upper half
+    (
+        (code & 255) as u32,
+        (code >> 8 & 0xff_ffff) as u32,
+        (code >> 32) as usize,
+    )
 }

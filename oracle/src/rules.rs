@@ -90,6 +90,10 @@ struct Run<'a> {
     running: Vec<f32>,
     notes: Vec<Option<Note>>,
     pile: Vec<(usize, usize)>,
+    /// a cell is empty
+    emptied: bool,
+    /// how many supports were lowered before that
+    lowered: u64,
 }
 
 impl<'a> Run<'a> {
@@ -113,6 +117,8 @@ impl<'a> Run<'a> {
             running: vec![running; n],
             notes: vec![None; n],
             pile: Vec::new(),
+            lowered: 0,
+            emptied: false,
         };
         if weighted.count_ones() >= 2 {
             for c in 0..n {
@@ -171,6 +177,7 @@ impl<'a> Run<'a> {
 
     fn remove(&mut self, c: usize, q: usize) {
         self.domains[c] &= !(1 << q);
+        self.emptied |= self.domains[c] == 0;
         self.supports[c * self.case.count + q] = [0; 4];
         self.pile.push((c, q));
         if self.case.weights[q] > 0 {
@@ -202,6 +209,7 @@ impl<'a> Run<'a> {
             return;
         }
         *left -= 1;
+        self.lowered += !self.emptied as u64;
         if *left > 0 {
             return;
         }
@@ -279,8 +287,9 @@ fn w_log_w(case: &Case, q: usize) -> f32 {
     w * w.log2()
 }
 
-fn run(case: &Case) -> Ended {
-    let mut run = Run::begin(case);
+/// The run to its end.
+fn ended(run: &mut Run) -> Ended {
+    let case = run.case;
     let mut choices = Vec::new();
     let zero = vec![0; case.cells()];
     for record in case.forbids.chunks(3) {
@@ -303,7 +312,7 @@ fn run(case: &Case) -> Ended {
                 return Ended {
                     end,
                     used,
-                    domains: run.domains,
+                    domains: run.domains.clone(),
                     choices,
                 };
             }
@@ -312,7 +321,7 @@ fn run(case: &Case) -> Ended {
             return Ended {
                 end: PAUSED,
                 used,
-                domains: run.domains,
+                domains: run.domains.clone(),
                 choices,
             };
         }
@@ -336,7 +345,14 @@ fn run(case: &Case) -> Ended {
 /// What a call with these inputs comes to.
 pub fn told(case: &Case) -> Told {
     match refusal(case) {
-        0 => Told::Ended(run(case)),
+        0 => Told::Ended(ended(&mut Run::begin(case))),
         number => Told::Refused(number),
     }
+}
+
+/// How many supports a run of an accepted case lowers, those of a contradiction up to the first empty cell.
+pub fn lowered(case: &Case) -> u64 {
+    let mut run = Run::begin(case);
+    ended(&mut run);
+    run.lowered
 }

@@ -11,7 +11,7 @@
 //! Several may follow each other. Status 0: no difference. Status 1: one, which is told.
 
 use oracle::cases::{self, Case, Ended, Told, CONTRADICTION};
-use oracle::{damage, generate, minimise, ours, probe, rules};
+use oracle::{damage, generate, minimise, probe, rules, told};
 use std::env;
 use std::process::exit;
 use std::time::Instant;
@@ -42,7 +42,7 @@ fn apart(what: &str, left: &dyn std::fmt::Display, right: &dyn std::fmt::Display
 /// What is told of a difference, or nothing.
 fn differs(case: &Case, figures: &mut Figures) -> Option<String> {
     figures.cases += 1;
-    let mine = match ours::told(case) {
+    let mine = match told::told(case) {
         Ok(told) => told,
         Err(why) => return Some(format!("Murghidossu: {}\n", why)),
     };

@@ -154,6 +154,16 @@ fn best_entry<W: Wrap>(core: &RunBorrowCore<W>, answer: &mut Answer) -> Option<C
     best
 }
 
+/// A forbid is laid and propagated.
+fn lay<W: Wrap>(core: &mut RunBorrowCore<W>, case: &Case, record: &[u32]) -> Result<(), PropagateError> {
+    let coord = coord_of(case, record[0]);
+    if record[2] == 0 {
+        core.forbid_pattern(coord, record[1])
+    } else {
+        core.forbid_all_patterns_except(coord, record[1])
+    }
+}
+
 fn go<W: Wrap>(wrap: W, case: &Case, answer: &mut Answer) {
     let stats = global_stats(case);
     let cells = case.cells();
@@ -163,13 +173,7 @@ fn go<W: Wrap>(wrap: W, case: &Case, answer: &mut Answer) {
     let mut core = RunBorrowCore::new(&mut context, &mut wave, &stats, wrap, &mut rng);
 
     for record in case.forbids.chunks(3) {
-        let coord = coord_of(case, record[0]);
-        let result = if record[2] == 0 {
-            core.forbid_pattern(coord, record[1])
-        } else {
-            core.forbid_all_patterns_except(coord, record[1])
-        };
-        if result.is_err() {
+        if lay(&mut core, case, record).is_err() {
             answer.ended.end = CONTRADICTION;
             answer.ended.domains = vec![0; cells];
             return;
@@ -253,4 +257,57 @@ fn published<W: Wrap>(wrap: W, case: &Case) -> (Vec<u64>, usize) {
     run.collapse(&mut rng).expect("no contradiction here");
     let used = rng.used();
     (domains(&run.into_wave()), used)
+}
+
+// ---- plain runs, to be timed: nothing is read on the way
+
+/// What the published code keeps between runs: its tables of the patterns, and the memory that `RunBorrow` is lent.
+pub struct Kept {
+    stats: GlobalStats,
+    context: Context,
+    wave: Wave,
+}
+
+impl Kept {
+    pub fn new(case: &Case) -> Self {
+        Self {
+            stats: global_stats(case),
+            context: Context::new(),
+            wave: Wave::new(size_of(case)),
+        }
+    }
+
+    /// A run on the memory of the run before. The end is told as Decided where the published code says only that it is complete.
+    pub fn run(&mut self, case: &Case) -> (u32, usize) {
+        plain_in(case, &self.stats, &mut self.context, &mut self.wave)
+    }
+
+    /// A run on memory made for it.
+    pub fn run_fresh(&self, case: &Case) -> (u32, usize) {
+        plain_in(case, &self.stats, &mut Context::new(), &mut Wave::new(size_of(case)))
+    }
+}
+
+fn plain_in(case: &Case, stats: &GlobalStats, context: &mut Context, wave: &mut Wave) -> (u32, usize) {
+    match case.mode {
+        0 => plain(WrapNone, case, stats, context, wave),
+        1 => plain(WrapX, case, stats, context, wave),
+        2 => plain(WrapY, case, stats, context, wave),
+        _ => plain(WrapXY, case, stats, context, wave),
+    }
+}
+
+fn plain<W: Wrap>(wrap: W, case: &Case, stats: &GlobalStats, context: &mut Context, wave: &mut Wave) -> (u32, usize) {
+    let mut rng = Feed::new(case);
+    let mut core = RunBorrowCore::new(context, wave, stats, wrap, &mut rng);
+    for record in case.forbids.chunks(3) {
+        if lay(&mut core, case, record).is_err() {
+            return (CONTRADICTION, rng.used());
+        }
+    }
+    // the published loop, whole
+    match core.collapse(&mut rng) {
+        Ok(()) => (DECIDED, rng.used()),
+        Err(_) => (CONTRADICTION, rng.used()),
+    }
 }
