@@ -76,6 +76,7 @@ COMMANDS = """
 --seed 3
 --seed 3 free.sheet seeded.result
 bytes seeded.result
+--seed 4 free.sheet --seed 3
 --seed 4294967295 held.sheet
 free.sheet eight.noise three.words paused.result
 bytes paused.result
