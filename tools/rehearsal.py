@@ -31,40 +31,64 @@ def words(*ns):
     return pack(f"<{len(ns)}I", *ns)
 
 
+def alone(count, width, height):
+    """Each pattern stands beside itself alone."""
+    return sheet([1] * count, [[p] for p in range(count) for _ in range(4)], width, height, 3)
+
+
 FREE = free([1, 2, 3], 4, 2, 1)
-LISTS = [[0, 1, 2, 3, 4]] * 19 + [[1, 0]]
+FALLING = [[0, 1, 2, 3, 4]] * 19 + [[1, 0]]
+ONE_SIDED = [[1]] * 4 + [[0]] * 3 + [[1]]
 FILES = {
     "free.sheet": FREE,
     "held.sheet": free([1, 1, 1, 1], 5, 3, 3, [(7, 2, 1), (0, 0, 0), (14, 3, 0)]),
     "checker.sheet": sheet([1, 1], [[1]] * 4 + [[0]] * 4, 3, 1, 1, [(0, 0, 1)]),
+    "4096.sheet": alone(64, 8, 8),
+    "4100.sheet": alone(41, 10, 10),
+    "size.sheet": free([1, 2, 3], 65, 1, 0),
+    "wrap.sheet": free([1, 2, 3], 4, 2, 4),
+    "count.sheet": free([], 4, 2, 1),
+    "weights.sheet": free([1024, 1], 4, 2, 1),
+    "list.sheet": free([1, 2, 3], 4, 2, 1).replace(bytes([3, 0, 1, 2]), bytes([3, 0, 2, 1]), 1),
+    "disagree.sheet": sheet([1, 1], ONE_SIDED, 3, 1, 1),
+    "cell.sheet": free([1, 2, 3], 4, 2, 1, [(8, 0, 0)]),
+    "pattern.sheet": free([1, 2, 3], 4, 2, 1, [(7, 3, 0)]),
+    "kind.sheet": free([1, 2, 3], 4, 2, 1, [(7, 0, 2)]),
     "cut.sheet": FREE[:-1],
     "more.sheet": FREE + b"\0",
     "empty.sheet": b"",
-    "cell.sheet": free([1, 2, 3], 4, 2, 1, [(8, 0, 0)]),
     "large.sheet": free([1] * 5, 32, 32, 0),
-    "large-and-wrong.sheet": sheet([1] * 5, LISTS, 32, 32, 0),
-    "long.sheet": bytes(41377),
+    "large-and-wrong.sheet": sheet([1] * 5, FALLING, 32, 32, 0),
+    "41376.sheet": bytes(41376),
+    "41377.sheet": bytes(41377),
     "eight.noise": words(5, 3, 8, 1, 9, 2, 7, 4),
     "seven.noise": words(5, 3, 8, 1, 9, 2, 7),
+    "empty.noise": b"",
+    "long.noise": bytes(4097),
     "three.words": words(4, 10, 2),
     "eight.words": words(4, 10, 2, 7, 1, 3, 11, 5),
-    "odd.words": bytes(5),
+    "empty.words": b"",
+    "long.words": words(4, 10, 2, 7, 1, 3, 11, 5) + bytes(4065),
+    "odd": bytes(5),
     "folder/file": b"",
 }
 COMMANDS = """
 --seed 3
 --seed 3 free.sheet seeded.result
 bytes seeded.result
+--seed 4 free.sheet --seed 3
 --seed 4294967295 held.sheet
 free.sheet eight.noise three.words paused.result
 bytes paused.result
+free.sheet eight.noise empty.words
 free.sheet eight.noise eight.words
+free.sheet eight.noise long.words
 --svg free.svg free.sheet eight.noise eight.words decided.result
 bytes decided.result
 text free.svg
-checker.sheet eight.noise eight.words
 --seed 3 checker.sheet contradiction.result
 bytes contradiction.result
+--seed 3 4096.sheet
 --seed
 --seed three
 --seed 4294967296
@@ -78,26 +102,44 @@ free.sheet eight.noise eight.words more.result fifth
 --seed 3 none.sheet
 --seed 3 ''
 --seed 3 folder
+--seed 3 free.sheet/free.sheet
 free.sheet none.noise eight.words
 free.sheet eight.noise none.words
 free.sheet folder eight.words
---seed 3 free.sheet none/free.result
---seed 3 free.sheet folder
---svg folder --seed 3 free.sheet
+free.sheet odd eight.words refused.result
+free.sheet eight.noise odd refused.result
 --seed 3 free.sheet free.sheet
 --svg eight.noise free.sheet eight.noise eight.words
 --svg both --seed 3 free.sheet both
 bytes free.sheet
+--seed 3 size.sheet refused.result
+--seed 3 wrap.sheet refused.result
+--seed 3 count.sheet refused.result
+--seed 3 weights.sheet refused.result
+free.sheet seven.noise eight.words refused.result
+free.sheet empty.noise eight.words refused.result
+free.sheet long.noise eight.words refused.result
+--seed 3 list.sheet refused.result
+--seed 3 disagree.sheet refused.result
+--seed 3 cell.sheet refused.result
+--seed 3 pattern.sheet refused.result
+--seed 3 kind.sheet refused.result
 --seed 3 cut.sheet refused.result
 --seed 3 more.sheet refused.result
 --seed 3 empty.sheet refused.result
---seed 3 cell.sheet refused.result
-free.sheet seven.noise eight.words refused.result
-free.sheet eight.noise odd.words refused.result
+--seed 3 41376.sheet refused.result
+--seed 3 41377.sheet refused.result
+--seed 3 4100.sheet refused.result
 --seed 3 large.sheet refused.result
 --seed 3 large-and-wrong.sheet refused.result
---seed 3 long.sheet refused.result
+--svg refused.svg --seed 3 free.sheet none/free.result
+--svg refused.svg --seed 3 free.sheet folder
+--svg refused.svg --seed 3 free.sheet /dev/full
+--svg none/free.svg --seed 3 free.sheet
+--svg '' --seed 3 free.sheet
+--svg /dev/full --seed 3 free.sheet
 text refused.result
+text refused.svg
 """
 
 for name, content in FILES.items():

@@ -1,1 +1,3 @@
 pub mod ArgumentLaws
+pub mod FileLaws
+pub mod Unique

@@ -1,2 +1,3 @@
 pub mod Sentences
 pub mod Arguments
+pub mod Files

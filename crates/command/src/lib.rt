@@ -1,7 +1,5 @@
-// What a person types and is told: the arguments of `ocean`, numbers in decimal, and a sentence for each refusal.
+// What a person types and is told: the arguments of `ocean`, the files that they name, numbers in decimal, and a sentence for what is wrong.
 // Follows docs/RULES.md, "Refusals" and "Programs".
 pub mod arguments;
-mod sentences;
-
-pub use sentences::put_fault;
-pub use sentences::put_refusal;
+pub mod files;
+pub mod sentences;

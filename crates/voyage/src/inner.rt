@@ -3,26 +3,30 @@ ghost use mathlib.Core.Path.{_≡_};
 ghost use Rattle.command.specs.Arguments.{faultOf};
 use bounded::inner::Ground;
 use bounded::inner::Taken;
+use command::arguments::Number;
 use command::arguments::Plan;
+use command::files::Names;
+use command::files::Words;
+use command::sentences::CLASH;
+use command::sentences::CUT;
+use command::sentences::TOO_LARGE;
+use command::sentences::TOO_LONG;
 
 mod files;
+mod memory;
 mod parts;
 mod show;
 
-// The seed of the practice ocean.
-const SEED: u32 = 7;
-
 // Noise and words from a seed, one of each for each cell.
-fn laid_from_seed(plan: Plan, told: i32, named: bool, seed: u32, sheet: &[u8], ground: Ground) {
+fn laid_from_seed(names: Names, told: i32, seed: u32, sheet: &[u8], ground: Ground) {
     let cells = ground.cells;
-    let mut noise = [0u32; 1024];
-    let mut words = [0u32; 1024];
+    let mut noise = memory::noise_to_lend();
+    let mut words = memory::words_to_lend();
     let state = parts::fill(seed, cells, &mut noise);
     parts::fill(state, cells, &mut words);
     show::run(
-        plan,
+        names,
         told,
-        named,
         sheet,
         ground,
         parts::words_of(&noise, cells),
@@ -30,83 +34,86 @@ fn laid_from_seed(plan: Plan, told: i32, named: bool, seed: u32, sheet: &[u8], g
     );
 }
 
-// How many noise words were read; a file of more than 1,024 counts as one too many, and is refused in its turn.
-fn noise_count(n: usize, more: bool) -> usize {
-    if more {
-        return 1025;
-    }
-    n / 4
+// The noise of a file, and how many words it is; `Cut` where the person was told that it is none.
+fn noise_from_file(index: usize, told: i32, out: &mut [u32]) -> Words {
+    let mut bytes = io::buffer();
+    let files::Loaded::Bytes(n, more) = files::load(index, told, &mut bytes) else {
+        return Words::Cut;
+    };
+    seed::read(&bytes, out);
+    let count = command::files::noise_words(n, more);
+    let Words::Whole(_) = count else {
+        files::tell(index, told, CUT);
+        return count;
+    };
+    count
 }
 
-// Noise and words from files. More words than there are cells are never used, so no more are read.
-fn laid_from_files(plan: Plan, told: i32, sheet: &[u8], ground: Ground) {
-    let names = plan.files;
+// The words of a file likewise. More than there are cells are never used, so no more than 1,024 are read.
+fn words_from_file(index: usize, told: i32, out: &mut [u32]) -> Words {
     let mut bytes = io::buffer();
-    let files::Loaded::Bytes(n, more) = files::load(names[1], told, &mut bytes) else {
+    let files::Loaded::Bytes(n, _) = files::load(index, told, &mut bytes) else {
+        return Words::Cut;
+    };
+    seed::read(&bytes, out);
+    let count = command::files::whole_words(n);
+    let Words::Whole(_) = count else {
+        files::tell(index, told, CUT);
+        return count;
+    };
+    count
+}
+
+// Noise and words from files.
+fn laid_from_files(names: Names, told: i32, sheet: &[u8], ground: Ground) {
+    let mut noise = memory::noise_to_lend();
+    let Words::Whole(n) = noise_from_file(names.noise, told, &mut noise) else {
         return;
     };
-    if n % 4 != 0 {
-        show::not_whole(told);
-        return;
-    }
-    let mut noise = [0u32; 1025];
-    seed::read(&bytes, &mut noise);
-    let files::Loaded::Bytes(m, _) = files::load(names[2], told, &mut bytes) else {
+    let mut words = memory::words_to_lend();
+    let Words::Whole(m) = words_from_file(names.words, told, &mut words) else {
         return;
     };
-    if m % 4 != 0 {
-        show::not_whole(told);
-        return;
-    }
-    let mut words = [0u32; 1024];
-    seed::read(&bytes, &mut words);
     show::run(
-        plan,
+        names,
         told,
-        false,
         sheet,
         ground,
-        parts::words_of(&noise, noise_count(n, more)),
-        parts::words_of(&words, m / 4),
+        parts::words_of(&noise, n),
+        parts::words_of(&words, m),
     );
 }
 
-// Measures a sheet and lays it.
-fn laid(plan: Plan, told: i32, named: bool, sheet: &[u8]) {
+// Measures a sheet and lays it, from a seed or from files.
+fn laid(names: Names, told: i32, seed: Number, sheet: &[u8]) {
     match bounded::inner::measure(sheet) {
         Taken::Refused(number) => show::refused(told, number as usize),
-        Taken::TooLarge => show::too_large(told),
-        Taken::TooLong => show::too_long(told),
-        Taken::Sheet(ground) => {
-            if plan.seeded {
-                laid_from_seed(plan, told, named, plan.seed, sheet, ground);
-            } else if named {
-                laid_from_seed(plan, told, named, SEED, sheet, ground);
-            } else {
-                laid_from_files(plan, told, sheet, ground);
-            }
-        }
+        Taken::TooLarge => show::fault(told, TOO_LARGE),
+        Taken::TooLong => show::fault(told, TOO_LONG),
+        Taken::Sheet(ground) => match seed {
+            Number::Is(n) => laid_from_seed(names, told, n, sheet, ground),
+            Number::Not => laid_from_files(names, told, sheet, ground),
+        },
     }
 }
 
-// A sheet from a file. A byte more than the longest sheet has says that one is too long.
-fn laid_from_file(plan: Plan, told: i32) {
-    let names = plan.files;
-    let mut bytes = [0u8; 41377];
-    let files::Loaded::Bytes(n, _) = files::load(names[0], told, &mut bytes) else {
+// A sheet from a file.
+fn laid_from_file(names: Names, told: i32, seed: Number) {
+    let mut bytes = memory::sheet_to_lend();
+    let files::Loaded::Bytes(n, _) = files::load(names.sheet, told, &mut bytes) else {
         return;
     };
-    laid(plan, told, false, parts::bytes_of(&bytes, n));
+    laid(names, told, seed, parts::bytes_of(&bytes, n));
 }
 
 // The practice ocean, or the sheet that is named.
-fn laid_as_asked(plan: Plan, told: i32) {
-    if plan.count == 0 {
+fn laid_as_asked(names: Names, told: i32, seed: Number) {
+    if names.sheet == 0 {
         let sheet = practice::sheet();
-        laid(plan, told, true, &sheet);
+        laid(names, told, seed, &sheet);
         return;
     }
-    laid_from_file(plan, told);
+    laid_from_file(names, told, seed);
 }
 
 // Carries out what the arguments ask for, and answers the number of what is wrong with them, 0 for nothing.
@@ -114,12 +121,13 @@ pub fn carry_out(plan: Plan, told: i32) -> usize
     ensures { λ r. ⌜ r ≡ faultOf plan ⌝ }
 {
     let wrong = command::arguments::fault_of(plan);
+    let names = command::files::names_of(plan);
     if wrong != 0 {
         show::fault(told, wrong);
-    } else if files::clash(plan) {
-        show::clash(told);
+    } else if files::clash(names) {
+        show::fault(told, CLASH);
     } else {
-        laid_as_asked(plan, told);
+        laid_as_asked(names, told, command::files::seed_of(plan));
     }
     wrong
 }

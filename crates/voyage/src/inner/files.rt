@@ -1,6 +1,13 @@
-// Files by the number of the argument that names them.
+// Files by the number of the argument that names them. Where one cannot be used the person is told why, in one sentence that names it.
+ghost use Rattle.io.specs.Counts.{Counts};
 use crate::inner::parts::bytes_of;
-use command::arguments::Plan;
+use crate::inner::show;
+use command::files::Names;
+use command::sentences::FOLDER;
+use command::sentences::FORBIDDEN;
+use command::sentences::MISSING;
+use command::sentences::UNREADABLE;
+use command::sentences::UNWRITTEN;
 
 // How many bytes were read, and whether there are more than fit; or the file could not be read, and the person was told.
 pub(crate) enum Loaded {
@@ -8,42 +15,88 @@ pub(crate) enum Loaded {
     Failed,
 }
 
-// Tells the person why a file cannot be used. What is rare is said in the system's own words.
-fn failed(told: i32, path: &[u8]) {
-    let error = os::errno();
-    if path.len() == 0 {
-        io::write_all(told, b"ocean: the name of a file is empty\n");
-        return;
+// The text of an argument at the start of the lent bytes, and its length; 0 is no argument.
+fn name(index: usize, text: &mut [u8]) -> usize
+    ensures { λ r. ⌜ Counts r (now (text .exit)) ⌝ }
+{
+    if index == 0 {
+        return 0;
     }
-    if error != libc::ENOENT && error != libc::EISDIR && error != libc::EACCES {
-        os::fail(path);
-        return;
-    }
-    io::write_all(told, b"ocean: ");
-    io::write_all(told, path);
+    os::arg(index, text)
+}
+
+// Whether a file that is to be written has the name of another.
+pub(crate) fn clash(names: Names) -> bool {
+    let mut sheet = io::buffer();
+    let mut noise = io::buffer();
+    let mut words = io::buffer();
+    let mut result = io::buffer();
+    let mut picture = io::buffer();
+    let a = name(names.sheet, &mut sheet);
+    let b = name(names.noise, &mut noise);
+    let c = name(names.words, &mut words);
+    let d = name(names.result, &mut result);
+    let e = name(names.picture, &mut picture);
+    command::files::clash(
+        &sheet[..a],
+        &noise[..b],
+        &words[..c],
+        &result[..d],
+        &picture[..e],
+    )
+}
+
+// Tells the person what is wrong with a file.
+pub(crate) fn tell(index: usize, told: i32, fault: usize) {
+    let mut path = io::buffer();
+    let n = name(index, &mut path);
+    show::file_fault(told, &path[..n], fault);
+}
+
+// What is wrong with a file, by what the system says.
+fn reason(error: i32) -> usize {
     if error == libc::ENOENT {
-        io::write_all(told, b": there is no such file or folder\n");
-    } else if error == libc::EISDIR {
-        io::write_all(told, b": this is a folder, not a file\n");
-    } else {
-        io::write_all(told, b": this may not be opened\n");
+        return MISSING;
     }
+    if error == libc::EISDIR {
+        return FOLDER;
+    }
+    if error == libc::EACCES {
+        return FORBIDDEN;
+    }
+    UNREADABLE
+}
+
+// Tells the person why a file could not be opened or read, just after the call that failed.
+fn failed(index: usize, told: i32) {
+    let error = os::errno();
+    tell(index, told, reason(error));
+}
+
+fn open_read(index: usize) -> i32 {
+    let mut path = io::buffer();
+    let n = name(index, &mut path);
+    os::open_read(&path[..n])
+}
+
+fn open_overwrite(index: usize) -> i32 {
+    let mut path = io::buffer();
+    let n = name(index, &mut path);
+    os::open_overwrite(&path[..n])
 }
 
 // Reads a file into the lent bytes.
 pub(crate) fn load(index: usize, told: i32, bytes: &mut [u8]) -> Loaded {
-    let mut path = io::buffer();
-    let n = os::arg(index, &mut path);
-    let fd = os::open_read(&path[..n]);
+    let fd = open_read(index);
     if fd < 0 {
-        failed(told, &path[..n]);
+        failed(index, told);
         return Loaded::Failed;
     }
     let got = io::read_full(fd, bytes);
     let mut one = [0u8; 1];
     let rest = libc::read(fd, &mut one);
     if rest < 0 {
-        failed(told, &path[..n]);
+        failed(index, told);
         libc::close(fd);
         return Loaded::Failed;
     }
@@ -53,77 +106,24 @@ pub(crate) fn load(index: usize, told: i32, bytes: &mut [u8]) -> Loaded {
 
 // Opens a file to be written, or tells the person why it cannot be and answers a negative number.
 pub(crate) fn start(index: usize, told: i32) -> i32 {
-    let mut path = io::buffer();
-    let n = os::arg(index, &mut path);
-    let fd = os::open_overwrite(&path[..n]);
+    let fd = open_overwrite(index);
     if fd < 0 {
-        failed(told, &path[..n]);
+        failed(index, told);
     }
     fd
 }
 
-// Writes the first n bytes.
-pub(crate) fn write(fd: i32, bytes: &[u8], n: usize) {
-    if !io::write_all(fd, bytes_of(bytes, n)) {
-        unwritten();
-    }
+// Writes the first n bytes, and answers whether all of them were.
+pub(crate) fn write(fd: i32, bytes: &[u8], n: usize) -> bool {
+    io::write_all(fd, bytes_of(bytes, n))
 }
 
-// A write that failed.
-fn unwritten() {
-    os::fail(b"ocean: what should be written could not be");
-}
-
-// Whether two arguments are given and have the same text.
-fn same_name(i: usize, j: usize) -> bool {
-    if i == 0 {
-        return false;
-    }
-    if j == 0 {
-        return false;
-    }
-    let mut first = io::buffer();
-    let mut second = io::buffer();
-    let n = os::arg(i, &mut first);
-    let m = os::arg(j, &mut second);
-    command::arguments::same(&first[..n], &second[..m])
-}
-
-// Whether an argument names one of the files before the one where the result goes.
-fn read_too(plan: Plan, index: usize) -> bool {
-    let names = plan.files;
-    if same_name(index, names[0]) {
+// Closes a file that was written, or not to its end, and then the person is told; answers whether all is written.
+pub(crate) fn finish(index: usize, told: i32, fd: i32, written: bool) -> bool {
+    let closed = libc::close(fd);
+    if written && closed == 0 {
         return true;
     }
-    if plan.seeded {
-        return false;
-    }
-    if same_name(index, names[1]) {
-        return true;
-    }
-    same_name(index, names[2])
-}
-
-// The argument that names where the result goes, 0 for none.
-pub(crate) fn result_name(plan: Plan) -> usize {
-    let names = plan.files;
-    if plan.count == 4 {
-        return names[3];
-    }
-    if plan.seeded && plan.count == 2 {
-        return names[1];
-    }
-    0
-}
-
-// Whether a file that is to be written is one that is read, or both that are to be written are one.
-pub(crate) fn clash(plan: Plan) -> bool {
-    let result = result_name(plan);
-    if same_name(result, plan.svg) {
-        return true;
-    }
-    if read_too(plan, result) {
-        return true;
-    }
-    read_too(plan, plan.svg)
+    tell(index, told, UNWRITTEN);
+    false
 }

@@ -1,59 +1,43 @@
 // What the person is shown: a chart, a picture, or one sentence.
 use crate::inner::files;
+use crate::inner::memory;
 use crate::inner::parts::domains_of;
 use bounded::inner::Ground;
 use bounded::inner::Laid;
-use command::arguments::Plan;
+use command::files::Names;
+use command::sentences::NO_NAME;
+use command::sentences::TOO_LARGE;
+use command::sentences::TOO_LONG;
+use command::sentences::UNWRITTEN;
 use libc::STDOUT_FILENO;
 
 // Why a sheet was refused.
 pub(crate) fn refused(told: i32, number: usize) {
     let mut page = io::buffer();
-    let n = command::put_refusal(number, 0, &mut page);
+    let n = command::sentences::put_refusal(number, 0, &mut page);
     files::write(told, &page, n);
 }
 
-// What is wrong with the arguments.
+// What is wrong with what is asked.
 pub(crate) fn fault(told: i32, number: usize) {
     let mut page = io::buffer();
-    let n = command::put_fault(number, 0, &mut page);
+    let n = command::sentences::put_fault(number, 0, &mut page);
     files::write(told, &page, n);
 }
 
-// A sheet that only the library takes.
-pub(crate) fn too_large(told: i32) {
-    io::write_all(
-        told,
-        b"ocean: this program takes up to 4,096 cells times patterns, and the sheet has more\n",
-    );
-}
-
-// A sheet that is longer than any that is accepted.
-pub(crate) fn too_long(told: i32) {
-    io::write_all(
-        told,
-        b"ocean: the sheet is longer than 41,376 bytes, and no sheet that is accepted is\n",
-    );
-}
-
-// A file of noise or words that ends within a word.
-pub(crate) fn not_whole(told: i32) {
-    io::write_all(
-        told,
-        b"ocean: noise and words are files of 32-bit words, and this one ends within a word\n",
-    );
-}
-
-// A file that is to be written has the name of another one of the command.
-pub(crate) fn clash(told: i32) {
-    io::write_all(
-        told,
-        b"ocean: RESULT and the picture want names of their own: one of them is the name of another file here\n",
-    );
+// What is wrong with the file of this name.
+pub(crate) fn file_fault(told: i32, name: &[u8], number: usize) {
+    if name.len() == 0 {
+        fault(told, NO_NAME);
+        return;
+    }
+    let mut page = io::large_buffer();
+    let n = command::sentences::put_file_fault(name, number, 0, &mut page);
+    files::write(told, &page, n);
 }
 
 // The chart, on standard output.
-fn chart(named: bool, ground: Ground, end: usize, words: usize, domains: &[u64]) {
+fn chart(told: i32, named: bool, ground: Ground, end: usize, words: usize, domains: &[u64]) {
     let mut page = io::large_buffer();
     let n = chart::put_chart(
         ground.width,
@@ -65,28 +49,77 @@ fn chart(named: bool, ground: Ground, end: usize, words: usize, domains: &[u64])
         0,
         &mut page,
     );
-    files::write(STDOUT_FILENO, &page, n);
+    if !files::write(STDOUT_FILENO, &page, n) {
+        file_fault(told, b"standard output", UNWRITTEN);
+    }
 }
 
-// A row of the picture.
-fn picture_row(fd: i32, width: usize, named: bool, domains: &[u64], y: usize) {
+// The parts of the picture, from the top down. Each answers whether it was written.
+fn picture_head(fd: i32, ground: Ground, end: usize, words: usize) -> bool {
+    let mut page = io::large_buffer();
+    let n = chart::put_picture_head(
+        ground.width,
+        ground.height,
+        ground.mode,
+        end,
+        words,
+        0,
+        &mut page,
+    );
+    files::write(fd, &page, n)
+}
+
+fn picture_row(fd: i32, width: usize, named: bool, domains: &[u64], y: usize) -> bool {
     let mut page = io::large_buffer();
     let n = chart::put_picture_row(width, named, domains, y, 0, &mut page);
-    files::write(fd, &page, n);
+    files::write(fd, &page, n)
 }
 
-// The rows of the picture.
-fn picture_rows(fd: i32, ground: Ground, named: bool, domains: &[u64]) {
+fn picture_rows(fd: i32, ground: Ground, named: bool, domains: &[u64]) -> bool {
     let width = ground.width;
     let height = ground.height;
     let mut y = 0;
     while y < height {
-        picture_row(fd, width, named, domains, y);
+        if !picture_row(fd, width, named, domains, y) {
+            return false;
+        }
         y += 1;
     }
+    true
 }
 
-// The picture, in the file that an argument names; whether that could be opened.
+fn picture_tail(fd: i32, ground: Ground, named: bool, domains: &[u64]) -> bool {
+    let mut page = io::large_buffer();
+    let n = chart::put_picture_tail(
+        ground.width,
+        ground.height,
+        ground.mode,
+        named,
+        domains,
+        0,
+        &mut page,
+    );
+    files::write(fd, &page, n)
+}
+
+fn picture_parts(
+    fd: i32,
+    named: bool,
+    ground: Ground,
+    end: usize,
+    words: usize,
+    domains: &[u64],
+) -> bool {
+    if !picture_head(fd, ground, end, words) {
+        return false;
+    }
+    if !picture_rows(fd, ground, named, domains) {
+        return false;
+    }
+    picture_tail(fd, ground, named, domains)
+}
+
+// The picture, in the file that an argument names; whether it was written to its end.
 fn picture(
     index: usize,
     told: i32,
@@ -100,48 +133,24 @@ fn picture(
     if fd < 0 {
         return false;
     }
-    let mut page = io::large_buffer();
-    let n = chart::put_picture_head(
-        ground.width,
-        ground.height,
-        ground.mode,
-        end,
-        words,
-        0,
-        &mut page,
-    );
-    files::write(fd, &page, n);
-    picture_rows(fd, ground, named, domains);
-    let m = chart::put_picture_tail(
-        ground.width,
-        ground.height,
-        ground.mode,
-        named,
-        domains,
-        0,
-        &mut page,
-    );
-    files::write(fd, &page, m);
-    libc::close(fd);
-    true
+    let written = picture_parts(fd, named, ground, end, words, domains);
+    files::finish(index, told, fd, written)
 }
 
-// The result, in the file that an argument names; whether that could be opened.
+// The result, in the file that an argument names; whether it was written to its end.
 fn result(index: usize, told: i32, bytes: &[u8], n: usize) -> bool {
     let fd = files::start(index, told);
     if fd < 0 {
         return false;
     }
-    files::write(fd, bytes, n);
-    libc::close(fd);
-    true
+    let written = files::write(fd, bytes, n);
+    files::finish(index, told, fd, written)
 }
 
-// What a run left: the result where it is asked for, the picture, and the chart, which is shown only if the files could be opened.
+// What a run left: the result and the picture where they are asked for, and the chart. What cannot be written is told, and what comes after it is left out.
 fn laid(
-    plan: Plan,
+    names: Names,
     told: i32,
-    named: bool,
     ground: Ground,
     end: usize,
     words: usize,
@@ -149,41 +158,39 @@ fn laid(
     bytes: &[u8],
     length: usize,
 ) {
-    let name = files::result_name(plan);
-    if name != 0 {
-        if !result(name, told, bytes, length) {
+    let named = names.sheet == 0;
+    if names.result != 0 {
+        if !result(names.result, told, bytes, length) {
             return;
         }
     }
-    if plan.svg != 0 {
-        if !picture(plan.svg, told, named, ground, end, words, domains) {
+    if names.picture != 0 {
+        if !picture(names.picture, told, named, ground, end, words, domains) {
             return;
         }
     }
-    chart(named, ground, end, words, domains);
+    chart(told, named, ground, end, words, domains);
 }
 
 // Lays the ocean and shows it, or says why not.
 pub(crate) fn run(
-    plan: Plan,
+    names: Names,
     told: i32,
-    named: bool,
     sheet: &[u8],
     ground: Ground,
     noise: &[u32],
     words: &[u32],
 ) {
     let cells = ground.cells;
-    let mut domains = [0u64; 1024];
-    let mut bytes = [0u8; 8202];
+    let mut domains = memory::domains_to_lend();
+    let mut bytes = memory::result_to_lend();
     match bounded::inner::lay(sheet, noise, words, &mut domains, &mut bytes) {
         Laid::Refused(number) => refused(told, number as usize),
-        Laid::TooLarge => too_large(told),
-        Laid::TooLong => too_long(told),
+        Laid::TooLarge => fault(told, TOO_LARGE),
+        Laid::TooLong => fault(told, TOO_LONG),
         Laid::Ended(end, used, length) => laid(
-            plan,
+            names,
             told,
-            named,
             ground,
             end as usize,
             used,

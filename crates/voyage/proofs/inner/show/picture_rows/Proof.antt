@@ -18,6 +18,9 @@ loop-holds c = tt
 picture-row-requires : tie.Need-picture-row-requires Inv-loop μ-loop
 picture-row-requires c κs = tt
 
+returns : tie.Need-returns Inv-loop μ-loop
+returns c = tt
+
 add-y : tie.Need-add-y Inv-loop μ-loop
 add-y c = omega arith
 
@@ -27,10 +30,10 @@ loop-less c = omega arith
 loop-again : tie.Need-loop-again Inv-loop μ-loop
 loop-again c = tt
 
-returns : tie.Need-returns Inv-loop μ-loop
-returns c = tt
+returns-2 : tie.Need-returns-2 Inv-loop μ-loop
+returns-2 c = tt
 
 pub picture-rows-spec : {M : Type 1} → statement M
 picture-rows-spec =
     tie.close
-    (tie.spec Inv-loop μ-loop loop-holds picture-row-requires add-y loop-less loop-again returns)
+    (tie.spec Inv-loop μ-loop loop-holds picture-row-requires returns add-y loop-less loop-again returns-2)
