@@ -10,22 +10,15 @@ use lib.Dec.{ltb}
 use lib.Ieee.{Float}
 use lib.ListN.{length, take, length-take}
 use borrow.Author.Tests.{ltb-true, ltb-false, lt-ltb, le-ltb}
-use Rattle.logarithms.specs.Notes.{noteOf}
-use Rattle.logarithms.specs.declared.inner.Note.{Note}
-use Rattle.choice.specs.declared.observer.Best.{Best}
-use Rattle.choice.specs.declared.observer.Best.the-variants.{At, Empty}
-use Rattle.choice.specs.Observer.{Notes, notesIn, Lengths, noteAt, join, bestIn}
-use Rattle.choice.specs.Cache.{startOf, code, Near, decode, codeAt}
-use Rattle.choice.proofs.ObserverLaws.{Ordered, join-empty, noteAt-noteOf}
+use Rattle.choice.specs.Observer.{Notes, notesIn, Lengths, noteAt, Best, At, Empty, join, bestIn, bestAt}
+use Rattle.choice.specs.Cache.{startOf, code, decode, codeAt}
+use Rattle.choice.proofs.ObserverLaws.{Ordered, join-empty}
 use Rattle.choice.proofs.JoinLaws.{bestIn-parts, bestIn-out, Own, bestIn-own}
+use Rattle.choice.proofs.BestLaws.{best-none, best-cell}
 
 -- ---- a code
 
-near : (v : Notes) (s k : ℕ) (b : Best) → k ≤ 32 → Own v s k b → Near s b
-near v s k Empty K h = tt
-near v s k (At c n) K h = (h .0, omega (arith, h .1))
-
-decode-code : (v : Notes) (s k : ℕ) (b : Best) → Own v s k b → decode (noteAt v) s (code s b) ≡ b
+decode-code : (v : Notes) (s k : ℕ) (b : Best) → Own v s k b → decode v s (code s b) ≡ b
 unfolding decode
 decode-code v s k Empty h = refl
 decode-code v s k (At c n) h =
@@ -67,53 +60,49 @@ module _ (v : Notes) (n y : ℕ) (few : length (v .counts) ≤ n) (h : startOf y
   codeAt-inside g = code-inside v (startOf y) (min 32 (n - startOf y)) n (bestIn v (startOf y) 32) block-own (omega arith) g
 
 -- a look at the cells of a block
-module _ {cells : ℕ} {noise domains marks : List ℕ} {floats : List Float} {end : ℕ} {b : Best} (weighted y : ℕ)
+module _ {cells : ℕ} {noise domains marks : List ℕ} {floats : List Float} {end : ℕ} (weighted y b : ℕ)
     (each : Lengths cells noise domains floats marks × (startOf y ≤ cells)) (e : end ≡ startOf y + min 32 (cells - startOf y))
-    (is : b ≡ bestIn (notesIn cells noise domains floats marks weighted) (startOf y) (end - startOf y)) where
+    (is : bestAt cells (notesIn cells noise domains floats marks weighted) b ≡ bestIn (notesIn cells noise domains floats marks weighted) (startOf y) (end - startOf y)) where
   abbrev v : Notes
   v = notesIn cells noise domains floats marks weighted
 
-  looked : b ≡ bestIn v (startOf y) (min 32 (cells - startOf y))
+  looked : bestAt cells v b ≡ bestIn v (startOf y) (min 32 (cells - startOf y))
   looked = let size : end - y * 32 ≡ min 32 (cells - y * 32) = omega arith in is ∙ ap (bestIn v (startOf y)) size
 
-  pub look-near : Near (startOf y) b
-  look-near =
-      subst (Near (startOf y)) (sym looked)
-      (near v (startOf y) (min 32 (cells - startOf y)) (bestIn v (startOf y) (min 32 (cells - startOf y))) (omega arith) (bestIn-own v (startOf y) (min 32 (cells - startOf y))))
-
-  pub look-codeAt : {r : ℕ} → r ≡ code (startOf y) b → r ≡ codeAt v y
+  look-codeAt : code (startOf y) (bestAt cells v b) ≡ codeAt v y
   unfolding codeAt
-  look-codeAt q = q ∙ ap (code (startOf y)) (looked ∙ sym (block-short v cells y (counts-few cells marks) (each .1)))
+  look-codeAt = ap (code (startOf y)) (looked ∙ sym (block-short v cells y (counts-few cells marks) (each .1)))
+
+  pub look-none : b ≡ cells → 1 ≡ codeAt v y
+  look-none h = sym (ap (code (startOf y)) (ap (bestAt cells v) h ∙ best-none cells v)) ∙ look-codeAt
+
+  module _ (h : b ≡ cells → ⊥) where
+    pub look-near : (startOf y ≤ b) × (b < startOf y + 32)
+    look-near =
+        let own : Own v (startOf y) (min 32 (cells - startOf y)) (At b (noteAt v b)) =
+        subst (Own v (startOf y) (min 32 (cells - startOf y))) (sym looked ∙ best-cell cells v h) (bestIn-own v (startOf y) (min 32 (cells - startOf y))) in
+        (own .0, omega (arith, own .1))
+
+    pub look-cell : {r : ℕ} → r ≡ b - startOf y + 2 → r ≡ codeAt v y
+    look-cell q = q ∙ sym (ap (code (startOf y)) (best-cell cells v h)) ∙ look-codeAt
 
 -- the mark stands for the best of the block's cells
-pub decode-codeAt : (v : Notes) (y : ℕ) → decode (noteAt v) (startOf y) (codeAt v y) ≡ bestIn v (startOf y) 32
+pub decode-codeAt : (v : Notes) (y : ℕ) → decode v (startOf y) (codeAt v y) ≡ bestIn v (startOf y) 32
 unfolding codeAt
 decode-codeAt v y = decode-code v (startOf y) 32 (bestIn v (startOf y) 32) (bestIn-own v (startOf y) 32)
 
 -- ---- what a mark adds to the best so far
 
-module _ (read : ℕ → Note) (start k : ℕ) (best : Best) where
-  pub held-none : k < 2 → best ≡ join best (decode read start k)
+module _ (v : Notes) (start k : ℕ) (best : Best) where
+  pub held-none : k < 2 → best ≡ join best (decode v start k)
   unfolding decode
-  held-none h = sym (ap (λ t. join best (cond t Empty (At (start + (k - 2)) (read (start + (k - 2)))))) (lt-ltb k 2 h) ∙ join-empty best)
+  held-none h = sym (ap (λ t. join best (cond t Empty (At (start + (k - 2)) (noteAt v (start + (k - 2)))))) (lt-ltb k 2 h) ∙ join-empty best)
 
-  pub held-cell : {c : ℕ} {n : Note} {r : Best} → 2 ≤ k → c ≡ start + (k - 2) → n ≡ read c → r ≡ join best (At c n) → r ≡ join best (decode read start k)
+  pub held-cell : {c : ℕ} {r : Best} → 2 ≤ k → c ≡ start + (k - 2) → r ≡ join best (At c (noteAt v c)) → r ≡ join best (decode v start k)
   unfolding decode
-  held-cell {c} h e f q =
-      q ∙ ap (λ m. join best (At c m)) f ∙ ap (λ d. join best (At d (read d))) e
-      ∙ sym (ap (λ t. join best (cond t Empty (At (start + (k - 2)) (read (start + (k - 2)))))) (le-ltb k 2 h))
-
--- the notes as they are kept, or as the observer reads them
-pub decode-noteOf : (cells : ℕ) (noise domains : List ℕ) (floats : List Float) (marks : List ℕ) (weighted start k : ℕ) → (2 ≤ k → start + (k - 2) < cells)
-    → decode (λ c. noteOf noise cells c floats marks) start k ≡ decode (noteAt (notesIn cells noise domains floats marks weighted)) start k
-unfolding decode
-decode-noteOf cells noise domains floats marks weighted start k inside = go (ltb k 2) refl
-  where
-    go : (t : Bool) → ltb k 2 ≡ t
-        → cond t Empty (At (start + (k - 2)) (noteOf noise cells (start + (k - 2)) floats marks))
-        ≡ cond t Empty (At (start + (k - 2)) (noteAt (notesIn cells noise domains floats marks weighted) (start + (k - 2))))
-    go true e = refl
-    go false e = ap (At (start + (k - 2))) (sym (noteAt-noteOf noise domains floats marks weighted (inside (ltb-false k 2 e))))
+  held-cell h e q =
+      q ∙ ap (λ d. join best (At d (noteAt v d))) e
+      ∙ sym (ap (λ t. join best (cond t Empty (At (start + (k - 2)) (noteAt v (start + (k - 2)))))) (le-ltb k 2 h))
 
 -- ---- the blocks together
 

@@ -15,8 +15,7 @@ use lib.Seq.{length-take-le, getD-drop, take-take, take-all, take-suc-set, appen
 use Rattle.logarithms.specs.Blocks.{blocks, blockOf, blockAt, SameCell, Watched}
 use Rattle.logarithms.specs.Notes.{noteOf}
 use Rattle.logarithms.specs.declared.inner.Note.{Note}
-use Rattle.choice.specs.declared.observer.Best.the-variants.{At, Empty}
-use Rattle.choice.specs.Observer.{Notes, notes, notesIn, valid, noteAt, candidate}
+use Rattle.choice.specs.Observer.{Notes, notes, notesIn, valid, noteAt, At, Empty, candidate}
 use Rattle.choice.specs.Cache.{startOf, code, codeAt, Fresh, codes, recoded, forgotten}
 use Rattle.choice.proofs.ObserverLaws.{noteAt-noteOf}
 use Rattle.choice.proofs.JoinLaws.{candidate-out, bestIn-same}

@@ -9,9 +9,7 @@ use native.Mathlib.Omega.{arith}
 use lib.ListN.{length, getD, List·getD-eq-default}
 use Rattle.order.specs.Numbers.{Number}
 use Rattle.logarithms.specs.declared.inner.Note.{Note}
-use Rattle.choice.specs.declared.observer.Best.{Best}
-use Rattle.choice.specs.declared.observer.Best.the-variants.{At, Empty}
-use Rattle.choice.specs.Observer.{Notes, valid, noteAt, countsAt, betterThan, join, candidate, bestIn}
+use Rattle.choice.specs.Observer.{Notes, valid, noteAt, countsAt, betterThan, Best, At, Empty, join, candidate, bestIn}
 use Rattle.order.proofs.BeatLaws.{beats-transitive, beats-cotransitive}
 use Rattle.choice.proofs.ObserverLaws.{Ordered, join-empty}
 

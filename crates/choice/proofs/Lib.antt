@@ -1,4 +1,5 @@
 pub mod ObserverLaws
+pub mod BestLaws
 pub mod JoinLaws
 pub mod BlockLaws
 pub mod CacheLaws

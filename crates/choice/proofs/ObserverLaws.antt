@@ -20,12 +20,9 @@ use Rattle.order.specs.Numbers.{Number, Numbers}
 use Rattle.order.specs.Order.{beats}
 use Rattle.adjacency.specs.Weights.{weightSum, mask}
 use Rattle.logarithms.specs.Notes.{noteOf}
-use Rattle.logarithms.specs.declared.inner.Note.{Note}
-use Rattle.choice.specs.declared.observer.Best.{Best}
-use Rattle.choice.specs.declared.observer.Best.the-variants.{At, Empty}
 use Rattle.choice.specs.declared.inner.Observed.{Observed}
 use Rattle.choice.specs.declared.inner.Observed.the-variants.{Cell, Nothing}
-use Rattle.choice.specs.Observer.{Notes, notesIn, Lengths, valid, noteAt, entropyAt, countsAt, betterThan, join, candidate, bestIn, observedAs, observe}
+use Rattle.choice.specs.Observer.{Notes, notesIn, Lengths, valid, noteAt, entropyAt, countsAt, betterThan, Best, At, Empty, join, candidate, bestIn, observedAs, observe}
 use Rattle.loops.proofs.TestLaws.{both}
 use Rattle.words.proofs.CountLaws.{many-none}
 use Rattle.order.proofs.OrderLaws.{lt-irreflexive}
@@ -66,24 +63,6 @@ join-empty (At c n) = refl
 pub noteAt-noteOf : {cells c : ℕ} (noise domains : List ℕ) (floats : List Float) (marks : List ℕ) (weighted : ℕ) → c < cells
     → noteAt (notesIn cells noise domains floats marks weighted) c ≡ noteOf noise cells c floats marks
 noteAt-noteOf {cells} {c} noise domains floats marks weighted h = rw (getD-take cells marks c 0 h, getD-drop cells floats c nan)
-
--- cell c of what the run keeps, held against the best so far
-module _ {cells c : ℕ} {noise domains marks : List ℕ} {floats : List Float} {n : Note} {t : Bool} (weighted : ℕ) (best : Best)
-    (each : Lengths cells noise domains floats marks × (c < cells)) (is : n ≡ noteOf noise cells c floats marks)
-    (test : t ≡ valid (n .count) (getD domains c 0) weighted) where
-  read : noteAt (notesIn cells noise domains floats marks weighted) c ≡ n
-  read = noteAt-noteOf noise domains floats marks weighted (each .1) ∙ sym is
-
-  tested : countsAt (notesIn cells noise domains floats marks weighted) c ≡ t
-  tested = ap (λ m. valid (m .count) (getD domains c 0) weighted) read ∙ sym test
-
-  pub step-held : {r : Best} → t ≡ true → r ≡ join best (At c n) → r ≡ join best (candidate (notesIn cells noise domains floats marks weighted) c)
-  unfolding candidate
-  step-held e q = rw (tested ∙ e) (q ∙ ap (λ m. join best (At c m)) (sym read))
-
-  pub step-passed : t ≡ false → best ≡ join best (candidate (notesIn cells noise domains floats marks weighted) c)
-  unfolding candidate
-  step-passed e = rw (tested ∙ e) (sym (join-empty best))
 
 module _ (v : Notes) (start : ℕ) where
   pub scan-start : Empty ≡ bestIn v start (start - start)

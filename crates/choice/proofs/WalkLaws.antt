@@ -5,6 +5,7 @@ use mathlib.Core.List.{List}
 use mathlib.Core.Logic.{_⊎_, inr, ⊎-elim}
 use mathlib.Core.Path.{_≡_, refl, sym, ap, _∙_, subst}
 use Prim.Native.Nat.{ℕ, _+_, _-_, _*_, _≤_, _<_}
+use native.Mathlib.Nat.{le-refl}
 use native.Mathlib.Omega.{arith}
 use lib.Dec.{eqb}
 use lib.Ieee.{Float}
@@ -13,14 +14,12 @@ use lib.Seq.{getD-drop, getD-set-same, getD-set-other, take-set-le, drop-set-add
 use borrow.Author.Tests.{eqb-true, eqb-false}
 use Rattle.order.specs.Numbers.{Numbers}
 use Rattle.logarithms.specs.Blocks.{blocks, blockAt}
-use Rattle.logarithms.specs.Notes.{noteOf}
-use Rattle.choice.specs.declared.observer.Best.{Best}
-use Rattle.choice.specs.declared.observer.Best.the-variants.{Empty}
 use Rattle.choice.specs.declared.inner.Observed.{Observed}
-use Rattle.choice.specs.Observer.{Notes, notesIn, Lengths, noteAt, join, bestIn, observedAs, observe}
+use Rattle.choice.specs.Observer.{Notes, notesIn, Lengths, join, bestIn, bestAt, observedAs, observe}
 use Rattle.choice.specs.Cache.{startOf, decode, codeAt, Fresh, codes, recoded}
 use Rattle.choice.proofs.ObserverLaws.{Ordered, ordered, lengths-each}
-use Rattle.choice.proofs.BlockLaws.{counts-few, codeAt-inside, decode-codeAt, decode-noteOf, bestIn-blocks, bestIn-all}
+use Rattle.choice.proofs.BestLaws.{best-none}
+use Rattle.choice.proofs.BlockLaws.{counts-few, codeAt-inside, decode-codeAt, bestIn-blocks, bestIn-all}
 use Rattle.choice.proofs.CacheLaws.{notesIn-front, looked-codes}
 
 -- ---- one mark
@@ -48,30 +47,32 @@ renew-kept n y v marks long l f is set-already =
 -- ---- the walk
 
 -- after y blocks of n cells, whose notes are v and whose marks were `first`
-pub record Upto (n : ℕ) (v : Notes) (first marks : List ℕ) (best : Best) (y : ℕ) : Type 0 where
+pub record Upto (n : ℕ) (v : Notes) (first marks : List ℕ) (best y : ℕ) : Type 0 where
   pub some : y ≤ blocks n
   pub long : length marks ≡ length first
   pub front : take (2 * n) marks ≡ take (2 * n) first
-  pub best-is : best ≡ bestIn v 0 (y * 32)
+  pub low : best ≤ n
+  pub best-is : bestAt n v best ≡ bestIn v 0 (y * 32)
   pub done : (j : ℕ) → j < y → getD (drop (2 * n) marks) j 0 ≡ codeAt v j
   pub fresh : Fresh v (drop (2 * n) marks)
 
-pub upto-start : (n : ℕ) (v : Notes) (first : List ℕ) → Fresh v (drop (2 * n) first) → Upto n v first first Empty 0
+pub upto-start : (n : ℕ) (v : Notes) (first : List ℕ) → Fresh v (drop (2 * n) first) → Upto n v first first n 0
 unfolding bestIn
-upto-start n v first f = record { some = omega arith; long = refl; front = refl; best-is = refl; done = λ j h. absurd (omega arith); fresh = f }
+upto-start n v first f = record { some = omega arith; long = refl; front = refl; low = le-refl n; best-is = best-none n v; done = λ j h. absurd (omega arith); fresh = f }
 
-module _ {n y : ℕ} {v : Notes} {first marks : List ℕ} {best : Best} (size : length first ≡ 2 * n + blocks n) (few : length (v .counts) ≤ n)
+module _ {n y best : ℕ} {v : Notes} {first marks : List ℕ} (size : length first ≡ 2 * n + blocks n) (few : length (v .counts) ≤ n)
     (u : Upto n v first marks best y) where
-  upto-turn : {marks′ : List ℕ} {best′ : Best} → Ordered v → 2 * n + y < length marks → marks′ ≡ set marks (blockAt n y) (codeAt v y)
-      → best′ ≡ join best (bestIn v (startOf y) 32) → Upto n v first marks′ best′ (y + 1)
-  upto-turn {marks′} {best′} o h m b =
+  upto-turn : {marks′ : List ℕ} {best′ : ℕ} → Ordered v → 2 * n + y < length marks → marks′ ≡ set marks (blockAt n y) (codeAt v y)
+      → best′ ≤ n → bestAt n v best′ ≡ join (bestAt n v best) (bestIn v (startOf y) 32) → Upto n v first marks′ best′ (y + 1)
+  upto-turn {marks′} {best′} o h m low b =
       let l : y < length (drop (2 * n) marks) = omega (arith, length-drop (2 * n) marks) in
       let cache : drop (2 * n) marks′ ≡ set (drop (2 * n) marks) y (codeAt v y) = ap (drop (2 * n)) m ∙ drop-set-add (2 * n) marks y (codeAt v y) in
       record {
         some = omega (arith, u .long);
         long = ap length m ∙ length-set marks (blockAt n y) (codeAt v y) ∙ u .long;
         front = ap (take (2 * n)) m ∙ take-set-le (2 * n) marks (blockAt n y) (codeAt v y) (omega arith) ∙ u .front;
-        best-is = b ∙ ap (λ (x : Best). join x (bestIn v (startOf y) 32)) (u .best-is) ∙ sym (bestIn-blocks v o y);
+        low = low;
+        best-is = b ∙ ap (λ x. join x (bestIn v (startOf y) 32)) (u .best-is) ∙ sym (bestIn-blocks v o y);
         done = λ j p. rw cache (at l j p (eqb j y) refl);
         fresh = rw cache (fresh-set v (drop (2 * n) marks) y (u .fresh) l);
       }
@@ -81,7 +82,7 @@ module _ {n y : ℕ} {v : Notes} {first marks : List ℕ} {best : Best} (size : 
           subst (λ (i : ℕ). getD (set (drop (2 * n) marks) y (codeAt v y)) i 0 ≡ codeAt v i) (sym (eqb-true j y e)) (getD-set-same (drop (2 * n) marks) y (codeAt v y) 0 l)
       at l j p false e = let d = eqb-false j y e in getD-set-other (drop (2 * n) marks) y j (codeAt v y) 0 d ∙ u .done j (omega arith)
 
-  upto-end : length marks ≤ 2 * n + y → (best ≡ bestIn v 0 n) × (marks ≡ recoded n v first)
+  upto-end : length marks ≤ 2 * n + y → (bestAt n v best ≡ bestIn v 0 n) × (marks ≡ recoded n v first)
   unfolding recoded
   upto-end h =
       let all : y ≡ blocks n = omega (arith, u .long, u .some) in
@@ -90,7 +91,7 @@ module _ {n y : ℕ} {v : Notes} {first marks : List ℕ} {best : Best} (size : 
 
 -- ---- the walk over what the run keeps
 
-module _ {cells y weighted : ℕ} {noise domains first marks : List ℕ} {floats : List Float} {best : Best} (each : Lengths cells noise domains floats first)
+module _ {cells y weighted best : ℕ} {noise domains first marks : List ℕ} {floats : List Float} (each : Lengths cells noise domains floats first)
     (u : Upto cells (notesIn cells noise domains floats first weighted) first marks best y) where
   abbrev entry : Notes
   entry = notesIn cells noise domains floats first weighted
@@ -125,21 +126,26 @@ module _ {cells y weighted : ℕ} {noise domains first marks : List ℕ} {floats
     pub walk-long : length marks′ ≡ length first
     walk-long = ap length (seen .1) ∙ length-set marks (blockAt cells y) (codeAt current y) ∙ u .long
 
-    pub walk-turn : {best′ : Best} → Numbers (drop cells floats) → best′ ≡ join best (decode (λ c. noteOf noise cells c floats marks′) (startOf y) mark)
+    pub walk-turn : {best′ : ℕ} → Numbers (drop cells floats)
+        → (best′ ≤ cells) × ((domains : List ℕ) (weighted : ℕ) → bestAt cells (notesIn cells noise domains floats marks′ weighted) best′
+        ≡ join (bestAt cells (notesIn cells noise domains floats marks′ weighted) best) (decode (notesIn cells noise domains floats marks′ weighted) (startOf y) mark))
         → Upto cells entry first marks′ best′ (y + 1)
-    walk-turn {best′} numbers b =
+    walk-turn {best′} numbers (low, b) =
         let m : marks′ ≡ set marks (blockAt cells y) (codeAt entry y) = seen .1 ∙ ap (λ w. set marks (blockAt cells y) (codeAt w y)) same-notes in
         let front : take (2 * cells) marks′ ≡ take (2 * cells) first =
         ap (take (2 * cells)) m ∙ take-set-le (2 * cells) marks (blockAt cells y) (codeAt entry y) (omega arith) ∙ u .front in
-        let found : decode (λ c. noteOf noise cells c floats marks′) (startOf y) mark ≡ bestIn entry (startOf y) 32 =
-        decode-noteOf cells noise domains floats marks′ weighted (startOf y) mark walk-inside
-        ∙ ap (λ w. decode (noteAt w) (startOf y) mark) (notesIn-front cells noise domains floats first marks′ weighted front)
-        ∙ ap (decode (noteAt entry) (startOf y)) is-code
-        ∙ decode-codeAt entry y in
-        upto-turn (each .marked) few u (ordered entry numbers (lengths-each each)) h m (b ∙ ap (join best) found)
+        let held : bestAt cells entry best′ ≡ join (bestAt cells entry best) (decode entry (startOf y) mark) =
+        subst (λ w. bestAt cells w best′ ≡ join (bestAt cells w best) (decode w (startOf y) mark)) (notesIn-front cells noise domains floats first marks′ weighted front) (b domains weighted) in
+        let found : decode entry (startOf y) mark ≡ bestIn entry (startOf y) 32 = ap (decode entry (startOf y)) is-code ∙ decode-codeAt entry y in
+        upto-turn (each .marked) few u (ordered entry numbers (lengths-each each)) h m low (held ∙ ap (join (bestAt cells entry best)) found)
 
-  pub walk-end : {r : Observed} → length marks ≤ 2 * cells + y → r ≡ observedAs best → (r ≡ observe entry) × (marks ≡ recoded cells entry first)
+  pub walk-end : {r : Observed} → length marks ≤ 2 * cells + y
+      → ((domains : List ℕ) (weighted : ℕ) → r ≡ observedAs (bestAt cells (notesIn cells noise domains floats marks weighted) best))
+      → (r ≡ observe entry) × (marks ≡ recoded cells entry first)
   unfolding observe
   walk-end h e =
-      let p = upto-end (each .marked) few u h in
-      (e ∙ ap observedAs (p .0) ∙ ap (λ (k : ℕ). observedAs (bestIn entry 0 k)) (sym (each .words)), p .1)
+      let p = upto-end (each .marked) few u h in (
+        e domains weighted ∙ ap (λ w. observedAs (bestAt cells w best)) same-notes ∙ ap observedAs (p .0)
+            ∙ ap (λ (k : ℕ). observedAs (bestIn entry 0 k)) (sym (each .words)),
+        p .1,
+      )

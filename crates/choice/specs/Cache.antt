@@ -5,14 +5,11 @@ use mathlib.Core.Bool.{cond}
 use mathlib.Core.List.{List, [], _∷_, _++_}
 use mathlib.Core.Logic.{_⊎_}
 use mathlib.Core.Path.{_≡_}
-use Prim.Native.Nat.{ℕ, zero, suc, _+_, _-_, _*_, _≤_, _<_}
+use Prim.Native.Nat.{ℕ, zero, suc, _+_, _-_, _*_, _<_}
 use lib.Dec.{ltb}
 use lib.ListN.{length, getD, take, replicate}
 use Rattle.logarithms.specs.Blocks.{blocks}
-use Rattle.logarithms.specs.declared.inner.Note.{Note}
-use Rattle.choice.specs.declared.observer.Best.{Best}
-use Rattle.choice.specs.declared.observer.Best.the-variants.{At, Empty}
-use Rattle.choice.specs.Observer.{Notes, bestIn}
+use Rattle.choice.specs.Observer.{Notes, noteAt, Best, At, Empty, bestIn}
 
 -- ---- one block
 
@@ -25,14 +22,9 @@ abbrev pub code : ℕ → Best → ℕ
 code start Empty = 1
 code start (At c n) = c - start + 2
 
--- a cell of the block that starts there, or none
-abbrev pub Near : ℕ → Best → Type 0
-Near start Empty = Unit {0}
-Near start (At c n) = (start ≤ c) × (c < start + 32)
-
 -- what a code stands for, 0 apart: a cell of the block that starts there, with its note
-unfoldable pub decode : (ℕ → Note) → ℕ → ℕ → Best
-decode noteAt start k = cond (ltb k 2) Empty (At (start + (k - 2)) (noteAt (start + (k - 2))))
+unfoldable pub decode : Notes → ℕ → ℕ → Best
+decode v start k = cond (ltb k 2) Empty (At (start + (k - 2)) (noteAt v (start + (k - 2))))
 
 -- what the mark of block y is after a look at its cells
 unfoldable pub codeAt : Notes → ℕ → ℕ

@@ -14,8 +14,6 @@ use Rattle.words.specs.Words.{howMany}
 use Rattle.logarithms.specs.Blocks.{blocks}
 use Rattle.logarithms.specs.Notes.{note}
 use Rattle.logarithms.specs.declared.inner.Note.{Note}
-use Rattle.choice.specs.declared.observer.Best.{Best}
-use Rattle.choice.specs.declared.observer.Best.the-variants.{At, Empty}
 use Rattle.choice.specs.declared.inner.Observed.{Observed}
 use Rattle.choice.specs.declared.inner.Observed.the-variants.{Cell, Nothing}
 
@@ -61,6 +59,11 @@ countsAt v c = valid (noteAt v c .count) (getD (v .domains) c 0) (v .mask)
 abbrev pub betterThan : Note → Note → Bool
 betterThan n m = beats (n .entropy) (n .noise) (m .entropy) (m .noise)
 
+-- the best of some cells: one of them with its note, or none
+pub data Best : Type 0 where
+  At : ℕ → Note → Best
+  Empty : Best
+
 -- of two cells the later one wins only where its note is better
 unfoldable pub join : Best → Best → Best
 unfolding beats
@@ -78,6 +81,10 @@ unfoldable pub bestIn : Notes → ℕ → ℕ → Best
 unfolding join candidate
 bestIn v start zero = Empty
 bestIn v start (suc k) = join (bestIn v start k) (candidate v (start + k))
+
+-- the best cell as a number, which is how many cells there are where it is none: what it stands for
+unfoldable pub bestAt : ℕ → Notes → ℕ → Best
+bestAt cells v b = cond (eqb b cells) Empty (At b (noteAt v b))
 
 abbrev pub observedAs : Best → Observed
 observedAs Empty = Nothing

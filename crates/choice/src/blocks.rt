@@ -1,14 +1,13 @@
 // What the observer keeps of each block of 32 cells, in a mark that any change in the block makes 0: a block whose mark is not 0 is not looked at again.
 // Follows docs/RULES.md, "Run"; stands for the heap of the Rust's `Observer`. Main property: a mark that is not 0 is what a look at the block's cells gives.
+ghost use mathlib.Core.List.{List};
 ghost use mathlib.Core.Path.{_≡_};
-ghost use Prim.Native.Nat.{_+_, _-_, _*_, _≤_, _<_, min};
+ghost use Prim.Native.Nat.{ℕ, _+_, _-_, _*_, _≤_, _<_, min};
 ghost use lib.ListN.{length, drop, set};
 ghost use Rattle.logarithms.specs.Blocks.{blocks, blockAt};
-ghost use Rattle.logarithms.specs.Notes.{noteOf};
-ghost use Rattle.choice.specs.Observer.{Lengths, notesIn, join};
-ghost use Rattle.choice.specs.Cache.{startOf, code, Near, decode, codeAt, Fresh};
+ghost use Rattle.choice.specs.Observer.{Lengths, notesIn, join, bestAt};
+ghost use Rattle.choice.specs.Cache.{startOf, decode, codeAt, Fresh};
 use crate::observer;
-use crate::observer::Best;
 use logarithms::inner::Note;
 
 fn narrow(x: usize) -> u8
@@ -36,17 +35,6 @@ fn block_end(start: usize, cells: usize) -> usize
     }
 }
 
-// The code of the best cell of a block.
-fn encode(start: usize, best: Best) -> u8
-    requires { ⌜ Near start best ⌝ }
-    ensures { λ r. ⌜ r ≡ code start best ⌝ }
-{
-    match best {
-        Best::At(cell, note) => narrow(cell - start + 2),
-        Best::Empty => 1,
-    }
-}
-
 // A look at the cells of block y.
 fn look(
     cells: usize,
@@ -62,10 +50,11 @@ fn look(
 {
     let start = y * 32;
     let end = block_end(start, cells);
-    encode(
-        start,
-        observer::scan(cells, noise, domains, floats, marks, weighted, start, end),
-    )
+    let best = observer::scan(cells, noise, domains, floats, marks, weighted, start, end);
+    if best == cells {
+        return 1;
+    }
+    narrow(best - start + 2)
 }
 
 // The mark of block y, after a look at its cells where it was 0.
@@ -99,16 +88,23 @@ pub(crate) fn held(
     noise: &[u32],
     floats: &[f32],
     marks: &[u8],
-    best: Best,
+    best: usize,
     start: usize,
     mark: u8,
-) -> Best
-    requires { ⌜ (length (now noise) ≡ cells) × (length (now floats) ≡ 2 * cells) × (cells ≤ length (now marks)) × (2 ≤ mark → start + (mark - 2) < cells) ⌝ }
-    ensures { λ r. ⌜ r ≡ join best (decode (λ c. noteOf (now (noise .entry)) cells c (now (floats .entry)) (now (marks .entry))) start mark) ⌝ }
+) -> usize
+    requires { ⌜ (length (now noise) ≡ cells) × (length (now floats) ≡ 2 * cells) × (cells ≤ length (now marks)) × (best ≤ cells) × (2 ≤ mark → start + (mark - 2) < cells) ⌝ }
+    ensures { λ r. ⌜ (r ≤ cells) × ((domains : List ℕ) (weighted : ℕ)
+        → bestAt cells (notesIn cells (now (noise .entry)) domains (now (floats .entry)) (now (marks .entry)) weighted) r
+        ≡ join (bestAt cells (notesIn cells (now (noise .entry)) domains (now (floats .entry)) (now (marks .entry)) weighted) best)
+        (decode (notesIn cells (now (noise .entry)) domains (now (floats .entry)) (now (marks .entry)) weighted) start mark)) ⌝ }
 {
     if mark < 2 {
         return best;
     }
     let cell = start + (wide(mark) - 2);
-    observer::better(best, cell, Note::of_cell(noise, cells, cell, floats, marks))
+    let note = Note::of_cell(noise, cells, cell, floats, marks);
+    if observer::wins(cells, noise, floats, marks, best, note) {
+        return cell;
+    }
+    best
 }

@@ -1,15 +1,16 @@
 // The steps of a run, without checks. Follows docs/RULES.md, "Run".
+ghost use mathlib.Core.List.{List};
 ghost use mathlib.Core.Option.{some};
 ghost use mathlib.Core.Path.{_≡_};
-ghost use Prim.Native.Nat.{_*_, _≤_, _<_};
+ghost use Prim.Native.Nat.{ℕ, _*_, _≤_, _<_};
 ghost use lib.ListN.{length, drop};
 ghost use Rattle.order.specs.Numbers.{Numbers};
 ghost use Rattle.adjacency.specs.Weights.{Bounded, weightSum};
-ghost use Rattle.choice.specs.Observer.{Lengths, notesIn, observedAs, observe};
+ghost use Rattle.choice.specs.Observer.{Lengths, notesIn, bestAt, observedAs, observe};
 ghost use Rattle.choice.specs.Cache.{Fresh, recoded, forgotten};
 ghost use Rattle.choice.specs.Choice.{taken};
 use crate::blocks;
-use crate::observer::Best;
+use logarithms::inner::Note;
 
 // Which cell to observe, with its entropy, or nothing.
 pub enum Observed {
@@ -18,13 +19,16 @@ pub enum Observed {
 }
 
 // The best cell is told by its entropy alone.
-fn told(best: Best) -> Observed
-    ensures { λ r. ⌜ r ≡ observedAs best ⌝ }
+fn told(cells: usize, noise: &[u32], floats: &[f32], marks: &[u8], best: usize) -> Observed
+    requires { ⌜ (length (now noise) ≡ cells) × (length (now floats) ≡ 2 * cells) × (cells ≤ length (now marks)) × (best ≤ cells) ⌝ }
+    ensures { λ r. ⌜ ((domains : List ℕ) (weighted : ℕ)
+        → r ≡ observedAs (bestAt cells (notesIn cells (now (noise .entry)) domains (now (floats .entry)) (now (marks .entry)) weighted) best)) ⌝ }
 {
-    match best {
-        Best::At(cell, note) => Observed::Cell(cell, note.entropy),
-        Best::Empty => Observed::Nothing,
+    if best == cells {
+        return Observed::Nothing;
     }
+    let note = Note::of_cell(noise, cells, best, floats, marks);
+    Observed::Cell(best, note.entropy)
 }
 
 // The cell to observe: of those whose note counts, the least entropy, then the least noise word, then the least cell.
@@ -44,14 +48,14 @@ pub fn observe(
         × (now (marks .exit) ≡ recoded cells (notesIn cells (now (noise .entry)) (now (domains .entry)) (now (floats .entry)) (now (marks .entry)) weighted)
         (now (marks .entry))) ⌝ }
 {
-    let mut best = Best::Empty;
+    let mut best = cells;
     let mut y = 0;
     while 2 * cells + y < marks.len() {
         let mark = blocks::renew(cells, noise, domains, floats, marks, weighted, y);
         best = blocks::held(cells, noise, floats, marks, best, y * 32, mark);
         y += 1;
     }
-    told(best)
+    told(cells, noise, floats, marks, best)
 }
 
 // The marks of the blocks 0: each block is looked at again.

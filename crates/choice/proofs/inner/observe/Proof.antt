@@ -40,7 +40,7 @@ held-requires c κs =
     let test = c .before .before .before .before .before .loop-test .taken in
     let each = head .before .before .before .before .before .pre .0 in
     let seen = c .before .before .before .renew .ensures in
-    (each .noises, each .values, omega (arith, walk-long each (head .loop .inv) test seen, each .marked), walk-inside each (head .loop .inv) test seen)
+    (each .noises, each .values, omega (arith, walk-long each (head .loop .inv) test seen, each .marked), head .loop .inv .low, walk-inside each (head .loop .inv) test seen)
 
 add-y : tie.Need-add-y Inv-loop μ-loop
 add-y c = omega (arith, c .before .before .before .before .before .before .before .loop .inv .long, c .before .before .before .before .before .before .loop-test .taken)
@@ -55,15 +55,18 @@ loop-again c =
     walk-turn (start .pre .0) (head .loop .inv) (c .before .before .before .before .before .before .loop-test .taken) (c .before .before .before .before .renew .ensures) (start .pre .1 .0) (c .held .ensures)
 
 told-requires : tie.Need-told-requires Inv-loop μ-loop
-told-requires c κs = tt
+told-requires c κs =
+    let head = c .before .before in
+    let each = head .before .before .before .before .before .pre .0 in
+    (each .noises, each .values, omega (arith, head .loop .inv .long, each .marked), head .loop .inv .low)
 
 same-length : tie.Need-same-length Inv-loop μ-loop
-same-length c = c .before .before .loop .inv .long
+same-length c = c .before .before .before .loop .inv .long
 
 returns : tie.Need-returns Inv-loop μ-loop
 returns c =
-    let head = c .before .before in
-    walk-end (head .before .before .before .before .before .pre .0) (head .loop .inv) (c .before .loop-test .left) (c .told .ensures)
+    let head = c .before .before .before in
+    walk-end (head .before .before .before .before .before .pre .0) (head .loop .inv) (c .before .before .loop-test .left) (c .told .ensures)
 
 pub observe-spec : {M : Type 1} → statement M
 observe-spec =

@@ -1,20 +1,18 @@
--- `choice::inner::told` meets its contract: each return is what its variant is told by.
+-- `choice::inner::told` meets its contract: each return is what the number stands for.
 -- Assumes nothing.
 use borrow.Author.Needs.{needs}
+use Rattle.choice.proofs.BestLaws.{told-none, told-cell}
 use Rattle.choice.proofs.inner.told.Statement.{statement}
 use Rattle.choice.proofs.inner.told.Tie as tie
 
-enum-known-best : tie.Need-enum-known-best
-enum-known-best c = search needs
-
-enum-told : tie.Need-enum-told
-enum-told c = search needs
-
 returns : tie.Need-returns
-returns c = rw (c .before .best .given .1)
+returns c = λ domains weighted. told-none _ _ (c .if1 .taken)
+
+of-cell-requires : tie.Need-of-cell-requires
+of-cell-requires c κs = search needs
 
 returns-2 : tie.Need-returns-2
-returns-2 c = search needs
+returns-2 c = λ domains weighted. told-cell _ _ _ domains _ _ weighted (c .before .if1 .left) (c .of-cell .ensures)
 
 pub told-spec : {M : Type 1} → statement M
-told-spec = tie.close (tie.spec enum-known-best enum-told returns returns-2)
+told-spec = tie.close (tie.spec returns of-cell-requires returns-2)
