@@ -50,6 +50,7 @@ open("crates/logarithms/specs/Logs.antt", "w").write(f"""\
 -- The bits are those of Rust's `f32::log2`, recorded with rustc 1.95.0 and glibc 2.36 on x86_64-unknown-linux-gnu,
 -- and the same on aarch64-unknown-linux-gnu (docs/LOGARITHMS.md). Assumes nothing.
 use mathlib.Core.List.{{List, [], _∷_, map}}
+use mathlib.Core.Path.{{_≡_}}
 use Prim.Native.Nat.{{ℕ, _-_}}
 use lib.Ieee.{{Float, nan, ofBits, binary32}}
 use lib.ListN.{{getD}}
@@ -63,6 +64,10 @@ logBits =
 unfoldable pub logs : List Float
 unfolding logBits
 logs = map (ofBits binary32) logBits
+
+-- a list is the logarithms, as code is lent them
+abbrev pub Logs : List Float → Type 0
+Logs l = l ≡ logs
 
 -- the logarithm of n, from 1 to 1,024
 unfoldable pub logOf : ℕ → Float

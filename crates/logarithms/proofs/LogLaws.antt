@@ -2,6 +2,7 @@
 -- exact at powers of two, the bounds by the 64th power, and that neither a logarithm nor w log w is a NaN or an infinity.
 -- Assumes nothing.
 use mathlib.Core.Bool.{Bool, _&&_}
+use mathlib.Core.List.{List}
 use mathlib.Core.Path.{_≡_, sym, ap, _∙_, subst, subst⁻¹}
 use Prim.Native.Nat.{ℕ, zero, suc, _-_, _*_, _^_, _<_, _≤_, suc-le-suc}
 use native.Mathlib.Nat.{not-suc-le-zero}
@@ -12,11 +13,11 @@ use lib.Ieee.Bits.{ofBits-toBits}
 use lib.Ieee.Fits.{and-l, and-r, ofInt-fits}
 use lib.Ieee.Scale.{finite}
 use lib.IntN.{pos}
-use lib.ListN.{getD, List·getD-map}
+use lib.ListN.{getD, length, List·getD-map}
 use lib.Pow.{suc-ones}
 use Rattle.loops.specs.Tests.{allTo}
 use Rattle.logarithms.specs.Floor.{floor64}
-use Rattle.logarithms.specs.Logs.{logBits, logs, logOf}
+use Rattle.logarithms.specs.Logs.{logBits, logs, logOf, Logs}
 use Rattle.logarithms.specs.Entropy.{wLogW}
 use Rattle.loops.proofs.TestLaws.{all-at}
 use Rattle.logarithms.proofs.Chain.{whole, entries, neighbours}
@@ -58,6 +59,11 @@ unfolding allTo power past
 passes-powers = tt
 
 -- ---- the laws
+
+-- the logarithms, as they are lent, are 1,024
+pub logs-long : (l : List Float) → Logs l → length l ≡ 1024
+unfolding logs
+logs-long l e = ap length e
 
 at : (k : ℕ) → logOf (suc k) ≡ ofBits binary32 (getD logBits k past)
 unfolding logOf ofBits past

@@ -4,7 +4,7 @@ ghost use Prim.Native.Nat.{_+_, _≤_, _<_};
 ghost use lib.ListN.{length};
 ghost use Rattle.adjacency.specs.Weights.{Bounded, wholeWeight};
 ghost use Rattle.refusals.specs.Refusals.{numberOf};
-ghost use Rattle.logarithms.specs.Logs.{logOf};
+ghost use Rattle.logarithms.specs.Logs.{logOf, Logs};
 ghost use Rattle.logarithms.specs.Entropy.{wLogW, plus, minus, running, less, entropy};
 ghost use Rattle.logarithms.specs.Notes.{noteOf, lowered};
 ghost use Rattle.logarithms.specs.Blocks.{blockOf, blockAt, touched};
@@ -15,70 +15,77 @@ use refusals::Verdict;
 
 // ---- logarithms
 
+// The table, to be lent: it is laid out once, and not at each look.
+pub fn logs() -> [f32; 1024]
+    ensures { λ r. ⌜ Logs r ⌝ }
+{
+    LOGS
+}
+
 // The logarithm of n, from the table.
-pub fn log2(n: usize) -> f32
-    requires { ⌜ (1 ≤ n) × (n ≤ 1024) ⌝ }
+pub fn log2(logs: &[f32], n: usize) -> f32
+    requires { ⌜ Logs (now logs) × (1 ≤ n) × (n ≤ 1024) ⌝ }
     ensures { λ r. ⌜ r ≡ logOf n ⌝ }
 {
-    LOGS[n - 1]
+    logs[n - 1]
 }
 
 // w log w, of a weight that is not 0.
-pub fn w_log_w(weight: u32) -> f32
-    requires { ⌜ (1 ≤ weight) × (weight ≤ 1024) ⌝ }
+pub fn w_log_w(logs: &[f32], weight: u32) -> f32
+    requires { ⌜ Logs (now logs) × (1 ≤ weight) × (weight ≤ 1024) ⌝ }
     ensures { λ r. ⌜ r ≡ wLogW weight ⌝ }
 {
-    (weight as f32) * log2(weight as usize)
+    (weight as f32) * log2(logs, weight as usize)
 }
 
 // ---- running values
 
 // What a pattern adds to the running value; a weight of 0 adds nothing.
-fn added(value: f32, weight: u32) -> f32
-    requires { ⌜ weight ≤ 1024 ⌝ }
+fn added(logs: &[f32], value: f32, weight: u32) -> f32
+    requires { ⌜ Logs (now logs) × (weight ≤ 1024) ⌝ }
     ensures { λ r. ⌜ r ≡ plus value weight ⌝ }
 {
     if weight == 0 {
         return value;
     }
-    value + w_log_w(weight)
+    value + w_log_w(logs, weight)
 }
 
 // What a removal leaves of the running value; a weight of 0 takes nothing away.
-pub fn removed(value: f32, weight: u32) -> f32
-    requires { ⌜ weight ≤ 1024 ⌝ }
+pub fn removed(logs: &[f32], value: f32, weight: u32) -> f32
+    requires { ⌜ Logs (now logs) × (weight ≤ 1024) ⌝ }
     ensures { λ r. ⌜ r ≡ minus value weight ⌝ }
 {
     if weight == 0 {
         return value;
     }
-    value - w_log_w(weight)
+    value - w_log_w(logs, weight)
 }
 
 // The running value of all patterns, summed upward.
-pub fn running(weights: &[u32]) -> f32
-    requires { ⌜ wholeWeight (now weights) ≤ 1024 ⌝ }
+pub fn running(logs: &[f32], weights: &[u32]) -> f32
+    requires { ⌜ Logs (now logs) × (wholeWeight (now weights) ≤ 1024) ⌝ }
     ensures { λ r. ⌜ r ≡ running (now (weights .entry)) ⌝ }
 {
     let mut value: f32 = 0.0;
     let mut p = 0;
     while p < weights.len() {
-        value = added(value, weights[p]);
+        value = added(logs, value, weights[p]);
         p += 1;
     }
     value
 }
 
 // The running value less the patterns that the word lacks, taken away upward.
-pub fn less(weights: &[u32], word: u64) -> f32
-    requires { ⌜ Bounded (now weights) word ⌝ }
+pub fn less(logs: &[f32], weights: &[u32], word: u64) -> f32
+    requires { ⌜ Logs (now logs) × Bounded (now weights) word ⌝ }
     ensures { λ r. ⌜ r ≡ less (now (weights .entry)) word ⌝ }
 {
-    let mut value = running(weights);
+    let mut value = running(logs, weights);
     let mut p = 0;
     while p < weights.len() {
         if !words::inner::has_pattern(word, p) {
-            value = removed(value, weights[p]);
+            value = removed(logs, value, weights[p]);
         }
         p += 1;
     }
@@ -88,11 +95,11 @@ pub fn less(weights: &[u32], word: u64) -> f32
 // ---- entropy
 
 // The entropy of a weight sum that is not 0 and a running value.
-pub fn entropy_from(sum: u32, value: f32) -> f32
-    requires { ⌜ (1 ≤ sum) × (sum ≤ 1024) ⌝ }
+pub fn entropy_from(logs: &[f32], sum: u32, value: f32) -> f32
+    requires { ⌜ Logs (now logs) × (1 ≤ sum) × (sum ≤ 1024) ⌝ }
     ensures { λ r. ⌜ r ≡ entropy sum value ⌝ }
 {
-    log2(sum as usize) - value / (sum as f32)
+    log2(logs, sum as usize) - value / (sum as f32)
 }
 
 // Whether a domain may be asked about apart from a run.

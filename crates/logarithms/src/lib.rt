@@ -28,7 +28,12 @@ pub fn entropy_of(count: usize, weights: &[u32], domain: u64) -> EntropyAnswer
             if sum == 0 {
                 return EntropyAnswer::Nothing;
             }
-            EntropyAnswer::Entropy(inner::entropy_from(sum, inner::less(weights, domain)))
+            let logs = inner::logs();
+            EntropyAnswer::Entropy(inner::entropy_from(
+                &logs,
+                sum,
+                inner::less(&logs, weights, domain),
+            ))
         }
     }
 }

@@ -1,6 +1,6 @@
 -- Laws of the lent slices of a propagation: what a pile stands for, and that a safe state leaves them as they must be.
 -- Assumes nothing.
-use mathlib.Core.Bool.{_||_}
+use mathlib.Core.Bool.{Bool, _||_}
 use mathlib.Core.List.{List, _∷_}
 use mathlib.Core.Path.{_≡_, refl, sym, ap, subst, _∙_}
 use Prim.Native.Nat.{ℕ, zero, suc, _+_, _-_, _*_, _≤_, _<_}
@@ -152,6 +152,10 @@ pub record Memory : Type 0 where
 
 abbrev pub memory : List ℕ → List ℕ → List ℕ → List Float → List ℕ → Memory
 memory domains counts pending floats marks = record { domains = domains; counts = counts; pending = pending; floats = floats; marks = marks }
+
+-- a pile by its two fields, as the loops carry it
+abbrev pub piled : ℕ → Bool → Pile
+piled top empty = record { top = top; empty = empty }
 
 abbrev pub stateIn : ℕ → Memory → Pile → State Beside
 stateIn P m pile = stateOf P (m .domains) (m .counts) (m .pending) pile (beside (m .floats) (m .marks))

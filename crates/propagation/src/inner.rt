@@ -12,6 +12,7 @@ ghost use Rattle.consistency.specs.Domains.{possible};
 ghost use Rattle.consistency.specs.Worklist.{removal};
 ghost use Rattle.consistency.specs.Worklist as worklist;
 ghost use Rattle.logarithms.specs.Blocks.{Watched};
+ghost use Rattle.logarithms.specs.Logs.{Logs};
 ghost use Rattle.propagation.specs.Beside.{beside, besideIn, lessened, kept, unmarked};
 ghost use Rattle.propagation.specs.Lent.{stateOf, Lent, Room, Ground};
 
@@ -34,6 +35,7 @@ pub(crate) fn narrow(x: usize) -> u32
 pub fn remove(
     count: usize,
     weights: &[u32],
+    logs: &[f32],
     cell: usize,
     pattern: usize,
     domains: &mut [u64],
@@ -43,7 +45,7 @@ pub fn remove(
     pile: Pile,
 ) -> Pile
     requires { ⌜ Lent count (length (now domains)) (now domains) (now counts) (now pending) pile ⌝ }
-    requires { ⌜ Weighed count (now weights) × ((p : ℕ) → weighted (now weights) p ≡ true → length (now floats) ≡ 2 * length (now domains)) ⌝ }
+    requires { ⌜ Weighed count (now weights) × ((p : ℕ) → weighted (now weights) p ≡ true → length (now floats) ≡ 2 * length (now domains)) × Logs (now logs) ⌝ }
     requires { ⌜ (cell < length (now domains)) × (pattern < count) × (possible (now domains) cell pattern ≡ 1) ⌝ }
     ensures { λ r. ⌜ ((marks : List ℕ) → stateOf count (now (domains .exit)) (now (counts .exit)) (now (pending .exit)) r (beside (now (floats .exit)) marks)
         ≡ worklist.remove count (lessened (now (weights .entry))) (removal cell pattern)
@@ -56,7 +58,7 @@ pub fn remove(
     let top = pile.top;
     pending[top] = narrow(slot);
     let weight = weights[pattern];
-    crate::notes::lessen(weight, cell, floats);
+    crate::notes::lessen(logs, weight, cell, floats);
     Pile {
         top: top + 1,
         empty: pile.empty | (word == 0),
@@ -70,6 +72,7 @@ pub fn propagate(
     ids: &[u8],
     weights: &[u32],
     weighted: u64,
+    logs: &[f32],
     width: usize,
     height: usize,
     mode: usize,
@@ -83,7 +86,7 @@ pub fn propagate(
 ) -> Pile
     requires { ⌜ Lent count (length (now domains)) (now domains) (now counts) (now pending) pile ⌝ }
     requires { ⌜ Ground (table count (now offsets) (now ids)) (grid width height mode) (length (now domains)) ⌝ }
-    requires { ⌜ Room count (length (now domains)) (now weights) (now noise) (now floats) (now marks) × (weighted ≡ mask (now weights)) ⌝ }
+    requires { ⌜ Room count (length (now domains)) (now weights) (now noise) (now floats) (now marks) × (weighted ≡ mask (now weights)) × Logs (now logs) ⌝ }
     ensures { λ r. ⌜ (stateOf count (now (domains .exit)) (now (counts .exit)) (now (pending .exit)) r
         (besideIn (length (now (domains .entry))) (now (floats .exit)) (now (marks .exit)))
         ≡ worklist.propagated (table count (now (offsets .entry)) (now (ids .entry))) (grid width height mode) (kept (now (weights .entry)) (now (noise .entry)) (length (now (domains .entry))))
@@ -93,14 +96,16 @@ pub fn propagate(
 {
     let cells = domains.len();
     crate::notes::unmark(cells, marks);
-    let mut next = pile;
-    while (0 < next.top) & !next.empty {
-        next = crate::propagator::pop(
+    let mut top = pile.top;
+    let mut empty = pile.empty;
+    while (0 < top) & !empty {
+        let next = crate::propagator::pop(
             count,
             offsets,
             ids,
             weights,
             weighted,
+            logs,
             width,
             height,
             mode,
@@ -111,8 +116,16 @@ pub fn propagate(
             pending,
             floats,
             marks,
-            next,
+            Pile {
+                top: top,
+                empty: empty,
+            },
         );
+        top = next.top;
+        empty = next.empty;
     }
-    next
+    Pile {
+        top: top,
+        empty: empty,
+    }
 }

@@ -6,18 +6,19 @@ ghost use Prim.Native.Nat.{ℕ, _+_, _*_, _^_, _≤_, _<_};
 ghost use lib.Ieee.{Float};
 ghost use lib.ListN.{length, drop};
 ghost use Rattle.adjacency.specs.Weights.{Weighed, mask};
+ghost use Rattle.logarithms.specs.Logs.{Logs};
 ghost use Rattle.propagation.specs.Beside as meaning;
 ghost use Rattle.propagation.specs.Beside.{beside, besideIn};
 ghost use Rattle.propagation.specs.Lent.{Room, Roomy};
 use logarithms::inner::Note;
 
 // A removal of that weight takes w log w off the cell's running value; without weight there may be none to take it off.
-pub(crate) fn lessen(weight: u32, cell: usize, floats: &mut [f32])
-    requires { ⌜ (weight ≤ 1024) × ((weight ≡ 0 → ⊥) → cell < length (now floats)) ⌝ }
+pub(crate) fn lessen(logs: &[f32], weight: u32, cell: usize, floats: &mut [f32])
+    requires { ⌜ Logs (now logs) × (weight ≤ 1024) × ((weight ≡ 0 → ⊥) → cell < length (now floats)) ⌝ }
     ensures { λ _. ⌜ ((marks : List ℕ) → beside (now (floats .exit)) marks ≡ meaning.lessenedBy weight cell (beside (now (floats .entry)) marks)) ⌝ }
 {
     if weight != 0 {
-        floats[cell] = logarithms::inner::removed(floats[cell], weight);
+        floats[cell] = logarithms::inner::removed(logs, floats[cell], weight);
     }
 }
 
@@ -84,6 +85,7 @@ pub(crate) fn propose(
     count: usize,
     weights: &[u32],
     weighted: u64,
+    logs: &[f32],
     noise: &[u32],
     cells: usize,
     cell: usize,
@@ -92,14 +94,14 @@ pub(crate) fn propose(
     floats: &mut [f32],
     marks: &mut [u8],
 )
-    requires { ⌜ Room count cells (now weights) (now noise) (now floats) (now marks) × (weighted ≡ mask (now weights)) ⌝ }
+    requires { ⌜ Room count cells (now weights) (now noise) (now floats) (now marks) × (weighted ≡ mask (now weights)) × Logs (now logs) ⌝ }
     requires { ⌜ (count ≤ 64) × (cell < cells) × (pattern < count) × (word < 2 ^ count) ⌝ }
     ensures { λ _. ⌜ beside (now (floats .exit)) (now (marks .exit))
         ≡ meaning.proposing (now (weights .entry)) (now (noise .entry)) cells cell pattern word (beside (now (floats .entry)) (now (marks .entry))) ⌝ }
 {
     if proposes(count, weights, weighted, pattern, word) {
         let sum = adjacency::inner::weight_sum(weights, word);
-        let entropy = logarithms::inner::entropy_from(sum, floats[cell]);
+        let entropy = logarithms::inner::entropy_from(logs, sum, floats[cell]);
         let ones = words::inner::count_ones(words::inner::shared(word, weighted));
         note(noise, cells, cell, entropy, ones as u32, floats, marks);
     }

@@ -6,16 +6,14 @@ ghost use Rattle.consistency.specs.Worklist.{cleared};
 ghost use Rattle.propagation.specs.Supports.{taken, takenAt};
 
 // Takes one support. True where it is the last: then the pattern goes, and clearing its counts is left to its removal.
+// Which of the three it is (none, the last, more) is not to be foreseen, so the count is written in each case and nothing branches on it.
 pub(crate) fn try_decrement(counts: &mut [u8], at: usize) -> bool
     requires { ⌜ at < length (now counts) ⌝ }
     ensures { λ r. ⌜ taken r (now (counts .exit)) ≡ takenAt (now (counts .entry)) at ⌝ }
 {
     let count = counts[at];
-    if count < 2 {
-        return count == 1;
-    }
-    counts[at] = count - 1;
-    false
+    counts[at] = count - (1 < count) as u8;
+    count == 1
 }
 
 // A pattern that is gone has no supports from any direction.

@@ -6,6 +6,7 @@ ghost use Rattle.adjacency.specs.Accepted.{AllBelow};
 ghost use Rattle.adjacency.specs.Tables.{table};
 ghost use Rattle.adjacency.specs.Weights.{mask};
 ghost use Rattle.grid.specs.Grid.{grid};
+ghost use Rattle.logarithms.specs.Logs.{Logs};
 ghost use Rattle.consistency.specs.Domains.{possible};
 ghost use Rattle.consistency.specs.Worklist.{removal};
 ghost use Rattle.consistency.specs.Worklist as worklist;
@@ -32,6 +33,7 @@ fn remove_and_propose(
     count: usize,
     weights: &[u32],
     weighted: u64,
+    logs: &[f32],
     noise: &[u32],
     cells: usize,
     cell: usize,
@@ -44,7 +46,7 @@ fn remove_and_propose(
     pile: Pile,
 ) -> Pile
     requires { ⌜ Lent count cells (now domains) (now counts) (now pending) pile ⌝ }
-    requires { ⌜ Room count cells (now weights) (now noise) (now floats) (now marks) × (weighted ≡ mask (now weights)) ⌝ }
+    requires { ⌜ Room count cells (now weights) (now noise) (now floats) (now marks) × (weighted ≡ mask (now weights)) × Logs (now logs) ⌝ }
     requires { ⌜ (cell < cells) × (pattern < count) × (possible (now domains) cell pattern ≡ 1) ⌝ }
     ensures { λ r. ⌜ stateOf count (now (domains .exit)) (now (counts .exit)) (now (pending .exit)) r (beside (now (floats .exit)) (now (marks .exit)))
         ≡ worklist.remove count (watching (now (weights .entry)) (now (noise .entry)) cells) (removal cell pattern)
@@ -53,6 +55,7 @@ fn remove_and_propose(
     let next = crate::inner::remove(
         count,
         weights,
+        logs,
         cell,
         pattern,
         domains,
@@ -65,6 +68,7 @@ fn remove_and_propose(
         count,
         weights,
         weighted,
+        logs,
         noise,
         cells,
         cell,
@@ -83,6 +87,7 @@ fn decrements(
     count: usize,
     weights: &[u32],
     weighted: u64,
+    logs: &[f32],
     noise: &[u32],
     cells: usize,
     cell: usize,
@@ -96,23 +101,25 @@ fn decrements(
     pile: Pile,
 ) -> Pile
     requires { ⌜ Lent count cells (now domains) (now counts) (now pending) pile ⌝ }
-    requires { ⌜ Room count cells (now weights) (now noise) (now floats) (now marks) × (weighted ≡ mask (now weights)) ⌝ }
+    requires { ⌜ Room count cells (now weights) (now noise) (now floats) (now marks) × (weighted ≡ mask (now weights)) × Logs (now logs) ⌝ }
     requires { ⌜ (cell < cells) × (d < 4) × AllBelow count (now list) ⌝ }
     ensures { λ r. ⌜ stateOf count (now (domains .exit)) (now (counts .exit)) (now (pending .exit)) r (beside (now (floats .exit)) (now (marks .exit)))
         ≡ worklist.decrements count (watching (now (weights .entry)) (now (noise .entry)) cells) cell d (now (list .entry))
         (stateOf count (now (domains .entry)) (now (counts .entry)) (now (pending .entry)) pile (beside (now (floats .entry)) (now (marks .entry)))) ⌝ }
 {
     let base = cell * count;
-    let mut next = pile;
+    let mut top = pile.top;
+    let mut empty = pile.empty;
     let mut i = 0;
     while i < list.len() {
         let q = wide(list[i]);
         i += 1;
         if crate::num_ways::try_decrement(counts, (base + q) * 4 + d) {
-            next = remove_and_propose(
+            let next = remove_and_propose(
                 count,
                 weights,
                 weighted,
+                logs,
                 noise,
                 cells,
                 cell,
@@ -122,11 +129,19 @@ fn decrements(
                 pending,
                 floats,
                 marks,
-                next,
+                Pile {
+                    top: top,
+                    empty: empty,
+                },
             );
+            top = next.top;
+            empty = next.empty;
         }
     }
-    next
+    Pile {
+        top: top,
+        empty: empty,
+    }
 }
 
 // What the removal of pattern p from a cell takes from the neighbour in direction d, where there is one.
@@ -136,6 +151,7 @@ fn spread_in(
     ids: &[u8],
     weights: &[u32],
     weighted: u64,
+    logs: &[f32],
     width: usize,
     height: usize,
     mode: usize,
@@ -153,7 +169,7 @@ fn spread_in(
 ) -> Pile
     requires { ⌜ Lent count cells (now domains) (now counts) (now pending) pile ⌝ }
     requires { ⌜ Ground (table count (now offsets) (now ids)) (grid width height mode) cells × (cell < cells) × (p < count) × (d < 4) ⌝ }
-    requires { ⌜ Room count cells (now weights) (now noise) (now floats) (now marks) × (weighted ≡ mask (now weights)) ⌝ }
+    requires { ⌜ Room count cells (now weights) (now noise) (now floats) (now marks) × (weighted ≡ mask (now weights)) × Logs (now logs) ⌝ }
     ensures { λ r. ⌜ stateOf count (now (domains .exit)) (now (counts .exit)) (now (pending .exit)) r (beside (now (floats .exit)) (now (marks .exit)))
         ≡ worklist.spreadIn (table count (now (offsets .entry)) (now (ids .entry))) (grid width height mode) (watching (now (weights .entry)) (now (noise .entry)) cells) (removal cell p) d
         (stateOf count (now (domains .entry)) (now (counts .entry)) (now (pending .entry)) pile (beside (now (floats .entry)) (now (marks .entry)))) ⌝ }
@@ -164,6 +180,7 @@ fn spread_in(
             count,
             weights,
             weighted,
+            logs,
             noise,
             cells,
             n,
@@ -187,6 +204,7 @@ fn spread(
     ids: &[u8],
     weights: &[u32],
     weighted: u64,
+    logs: &[f32],
     width: usize,
     height: usize,
     mode: usize,
@@ -203,20 +221,22 @@ fn spread(
 ) -> Pile
     requires { ⌜ Lent count cells (now domains) (now counts) (now pending) pile ⌝ }
     requires { ⌜ Ground (table count (now offsets) (now ids)) (grid width height mode) cells × (cell < cells) × (p < count) ⌝ }
-    requires { ⌜ Room count cells (now weights) (now noise) (now floats) (now marks) × (weighted ≡ mask (now weights)) ⌝ }
+    requires { ⌜ Room count cells (now weights) (now noise) (now floats) (now marks) × (weighted ≡ mask (now weights)) × Logs (now logs) ⌝ }
     ensures { λ r. ⌜ stateOf count (now (domains .exit)) (now (counts .exit)) (now (pending .exit)) r (beside (now (floats .exit)) (now (marks .exit)))
         ≡ worklist.spread (table count (now (offsets .entry)) (now (ids .entry))) (grid width height mode) (watching (now (weights .entry)) (now (noise .entry)) cells) (removal cell p)
         (stateOf count (now (domains .entry)) (now (counts .entry)) (now (pending .entry)) pile (beside (now (floats .entry)) (now (marks .entry)))) ⌝ }
 {
-    let mut next = pile;
+    let mut top = pile.top;
+    let mut empty = pile.empty;
     let mut d = 0;
     while d < 4 {
-        next = spread_in(
+        let next = spread_in(
             count,
             offsets,
             ids,
             weights,
             weighted,
+            logs,
             width,
             height,
             mode,
@@ -230,11 +250,19 @@ fn spread(
             pending,
             floats,
             marks,
-            next,
+            Pile {
+                top: top,
+                empty: empty,
+            },
         );
+        top = next.top;
+        empty = next.empty;
         d += 1;
     }
-    next
+    Pile {
+        top: top,
+        empty: empty,
+    }
 }
 
 // Pops the removal on top of the pile and spreads it.
@@ -244,6 +272,7 @@ pub(crate) fn pop(
     ids: &[u8],
     weights: &[u32],
     weighted: u64,
+    logs: &[f32],
     width: usize,
     height: usize,
     mode: usize,
@@ -258,7 +287,7 @@ pub(crate) fn pop(
 ) -> Pile
     requires { ⌜ Lent count cells (now domains) (now counts) (now pending) pile ⌝ }
     requires { ⌜ Ground (table count (now offsets) (now ids)) (grid width height mode) cells × (0 < pile .top) ⌝ }
-    requires { ⌜ Room count cells (now weights) (now noise) (now floats) (now marks) × (weighted ≡ mask (now weights)) ⌝ }
+    requires { ⌜ Room count cells (now weights) (now noise) (now floats) (now marks) × (weighted ≡ mask (now weights)) × Logs (now logs) ⌝ }
     ensures { λ r. ⌜ stateOf count (now (domains .exit)) (now (counts .exit)) (now (pending .exit)) r (beside (now (floats .exit)) (now (marks .exit)))
         ≡ worklist.spread (table count (now (offsets .entry)) (now (ids .entry))) (grid width height mode) (watching (now (weights .entry)) (now (noise .entry)) cells) (topOf count (now (pending .entry)) pile)
         (stateOf count (now (domains .entry)) (now (counts .entry)) (now (pending .entry)) (lowered pile) (beside (now (floats .entry)) (now (marks .entry)))) ⌝ }
@@ -271,6 +300,7 @@ pub(crate) fn pop(
         ids,
         weights,
         weighted,
+        logs,
         width,
         height,
         mode,

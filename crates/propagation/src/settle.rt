@@ -31,6 +31,7 @@ fn reduce(
     ensures { λ r. ⌜ now (domains .exit) ≡ reducedFrom (table count (now (offsets .entry)) (now (ids .entry))) (grid width height mode) (now (domains .entry)) .domains ⌝ }
 {
     let begun = crate::given::begin(count, offsets, ids, domains, counts, pending);
+    let logs = logarithms::inner::logs();
     let weights = [0u32; 64];
     let noise = [0u32; 1];
     let mut floats = [0.0f32; 1];
@@ -41,6 +42,7 @@ fn reduce(
         ids,
         &weights[..count],
         0,
+        &logs,
         width,
         height,
         mode,

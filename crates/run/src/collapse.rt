@@ -7,6 +7,7 @@ ghost use Rattle.adjacency.specs.Tables.{table};
 ghost use Rattle.adjacency.specs.Weights.{Weighed, mask, weightSum};
 ghost use Rattle.grid.specs.Grid.{grid, cells};
 ghost use Rattle.logarithms.specs.Blocks.{blocks, Watched};
+ghost use Rattle.logarithms.specs.Logs.{Logs};
 ghost use Rattle.propagation.specs.Beside.{besideIn};
 ghost use Rattle.propagation.specs.Lent.{stateOf, Lent, Room, Roomy, Ground};
 ghost use Rattle.run.specs.declared.collapse.Step.{Step};
@@ -50,6 +51,7 @@ fn choose_at(
     ids: &[u8],
     weights: &[u32],
     weighted: u64,
+    logs: &[f32],
     width: usize,
     height: usize,
     mode: usize,
@@ -64,7 +66,7 @@ fn choose_at(
 ) -> Pile
     requires { ⌜ Lent count (length (now domains)) (now domains) (now counts) (now pending) idle ⌝ }
     requires { ⌜ Ground (table count (now offsets) (now ids)) (grid width height mode) (length (now domains)) ⌝ }
-    requires { ⌜ Room count (length (now domains)) (now weights) (now noise) (now floats) (now marks) × (weighted ≡ mask (now weights)) ⌝ }
+    requires { ⌜ Room count (length (now domains)) (now weights) (now noise) (now floats) (now marks) × (weighted ≡ mask (now weights)) × Logs (now logs) ⌝ }
     requires { ⌜ (cell < length (now domains)) × (0 < weightSum (now weights) (getD (now domains) cell 0)) ⌝ }
     ensures { λ r. ⌜ (stateOf count (now (domains .exit)) (now (counts .exit)) (now (pending .exit)) r (besideIn (length (now (domains .exit))) (now (floats .exit)) (now (marks .exit)))
         ≡ run.chosen (given (table count (now (offsets .entry)) (now (ids .entry))) (now (weights .entry)) (grid width height mode) (now (noise .entry))) cell
@@ -81,6 +83,7 @@ fn choose_at(
         ids,
         weights,
         weighted,
+        logs,
         width,
         height,
         mode,
@@ -103,6 +106,7 @@ fn turn(
     ids: &[u8],
     weights: &[u32],
     weighted: u64,
+    logs: &[f32],
     width: usize,
     height: usize,
     mode: usize,
@@ -117,7 +121,7 @@ fn turn(
 ) -> Step
     requires { ⌜ Lent count (length (now domains)) (now domains) (now counts) (now pending) idle ⌝ }
     requires { ⌜ Ground (table count (now offsets) (now ids)) (grid width height mode) (length (now domains)) ⌝ }
-    requires { ⌜ Weighed count (now weights) × Roomy (length (now domains)) (now noise) (now floats) (now marks) × (weighted ≡ mask (now weights)) ⌝ }
+    requires { ⌜ Weighed count (now weights) × Roomy (length (now domains)) (now noise) (now floats) (now marks) × (weighted ≡ mask (now weights)) × Logs (now logs) ⌝ }
     requires { ⌜ Sightly (now noise) weighted (now domains) (now floats) (now marks) ⌝ }
     ensures { λ r. ⌜ (turnOf r used (λ pile. stateOf count (now (domains .exit)) (now (counts .exit)) (now (pending .exit)) pile (besideIn (length (now (domains .exit))) (now (floats .exit)) (now (marks .exit))))
         ≡ run.turn (given (table count (now (offsets .entry)) (now (ids .entry))) (now (weights .entry)) (grid width height mode) (now (noise .entry))) (now (words .entry)) used
@@ -139,6 +143,7 @@ fn turn(
                     ids,
                     weights,
                     weighted,
+                    logs,
                     width,
                     height,
                     mode,
@@ -164,6 +169,7 @@ fn advance(
     ids: &[u8],
     weights: &[u32],
     weighted: u64,
+    logs: &[f32],
     width: usize,
     height: usize,
     mode: usize,
@@ -178,7 +184,7 @@ fn advance(
 ) -> Stop
     requires { ⌜ Lent count (length (now domains)) (now domains) (now counts) (now pending) idle ⌝ }
     requires { ⌜ Ground (table count (now offsets) (now ids)) (grid width height mode) (length (now domains)) ⌝ }
-    requires { ⌜ Weighed count (now weights) × Roomy (length (now domains)) (now noise) (now floats) (now marks) × (weighted ≡ mask (now weights)) ⌝ }
+    requires { ⌜ Weighed count (now weights) × Roomy (length (now domains)) (now noise) (now floats) (now marks) × (weighted ≡ mask (now weights)) × Logs (now logs) ⌝ }
     requires { ⌜ Sightly (now noise) weighted (now domains) (now floats) (now marks) ⌝ }
     ensures { λ r. ⌜ ((step : Step) × (r ≡ stopOf step used)
         × (turnOf step used (λ pile. stateOf count (now (domains .exit)) (now (counts .exit)) (now (pending .exit)) pile (besideIn (length (now (domains .exit))) (now (floats .exit)) (now (marks .exit))))
@@ -192,6 +198,7 @@ fn advance(
         ids,
         weights,
         weighted,
+        logs,
         width,
         height,
         mode,
@@ -231,6 +238,7 @@ pub(crate) fn collapse(
     ids: &[u8],
     weights: &[u32],
     weighted: u64,
+    logs: &[f32],
     width: usize,
     height: usize,
     mode: usize,
@@ -244,7 +252,7 @@ pub(crate) fn collapse(
 ) -> Stop
     requires { ⌜ Lent count (length (now domains)) (now domains) (now counts) (now pending) idle ⌝ }
     requires { ⌜ Ground (table count (now offsets) (now ids)) (grid width height mode) (length (now domains)) ⌝ }
-    requires { ⌜ Weighed count (now weights) × Roomy (length (now domains)) (now noise) (now floats) (now marks) × (weighted ≡ mask (now weights)) ⌝ }
+    requires { ⌜ Weighed count (now weights) × Roomy (length (now domains)) (now noise) (now floats) (now marks) × (weighted ≡ mask (now weights)) × Logs (now logs) ⌝ }
     requires { ⌜ length (now marks) ≡ 2 * length (now domains) + blocks (length (now domains)) ⌝ }
     requires { ⌜ Laid (given (table count (now offsets) (now ids)) (now weights) (grid width height mode) (now noise))
         (stateOf count (now domains) (now counts) (now pending) idle (besideIn (length (now domains)) (now floats) (now marks))) ⌝ }
@@ -261,6 +269,7 @@ pub(crate) fn collapse(
             ids,
             weights,
             weighted,
+            logs,
             width,
             height,
             mode,

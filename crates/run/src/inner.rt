@@ -102,12 +102,14 @@ pub fn lay_one(
         ≡ layAt (given (table count (now (offsets .entry)) (now (ids .entry))) (now (weights .entry)) (grid width height mode) (now (noise .entry))) (asking cell pattern keep)
         (stateIn count (memory (now (domains .entry)) (now (counts .entry)) (now (pending .entry)) (now (floats .entry)) (now (marks .entry)))) ⌝ }
 {
+    let logs = logarithms::inner::logs();
     let pile = crate::laying::lay(
         count,
         offsets,
         ids,
         weights,
         adjacency::inner::weighted_mask(weights),
+        &logs,
         width,
         height,
         mode,
@@ -245,12 +247,14 @@ fn turns(
         (standing (stateIn count (memory (now (domains .entry)) (now (counts .entry)) (now (pending .entry)) (now (floats .entry)) (now (marks .entry)))))
         (memory (now (domains .entry)) (now (counts .entry)) (now (pending .entry)) (now (floats .entry)) (now (marks .entry))) ⌝ }
 {
+    let logs = logarithms::inner::logs();
     let stop = crate::collapse::collapse(
         count,
         offsets,
         ids,
         weights,
         adjacency::inner::weighted_mask(weights),
+        &logs,
         width,
         height,
         mode,

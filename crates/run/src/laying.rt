@@ -11,6 +11,7 @@ ghost use Rattle.grid.specs.Grid.{grid};
 ghost use Rattle.consistency.specs.Worklist.{removal, forbids};
 ghost use Rattle.consistency.specs.Start.{others};
 ghost use Rattle.logarithms.specs.Blocks.{Watched};
+ghost use Rattle.logarithms.specs.Logs.{Logs};
 ghost use Rattle.propagation.specs.Beside.{beside, besideIn, lessened};
 ghost use Rattle.propagation.specs.Lent.{stateOf, Lent, Room, Ground};
 ghost use Rattle.run.specs.Run.{asked, laid};
@@ -22,6 +23,7 @@ use propagation::inner::Pile;
 fn remove_others(
     count: usize,
     weights: &[u32],
+    logs: &[f32],
     cell: usize,
     pattern: usize,
     domains: &mut [u64],
@@ -31,7 +33,7 @@ fn remove_others(
     pile: Pile,
 ) -> Pile
     requires { ⌜ Lent count (length (now domains)) (now domains) (now counts) (now pending) pile ⌝ }
-    requires { ⌜ Weighed count (now weights) × ((p : ℕ) → weighted (now weights) p ≡ true → length (now floats) ≡ 2 * length (now domains)) ⌝ }
+    requires { ⌜ Weighed count (now weights) × ((p : ℕ) → weighted (now weights) p ≡ true → length (now floats) ≡ 2 * length (now domains)) × Logs (now logs) ⌝ }
     requires { ⌜ (cell < length (now domains)) × (pattern < count) ⌝ }
     ensures { λ r. ⌜ ((marks : List ℕ) → stateOf count (now (domains .exit)) (now (counts .exit)) (now (pending .exit)) r (beside (now (floats .exit)) marks)
         ≡ forbids count (lessened (now (weights .entry))) (others count cell pattern)
@@ -43,6 +45,7 @@ fn remove_others(
         next = propagation::inner::remove(
             count,
             weights,
+            logs,
             cell,
             words::inner::next_pattern(left),
             domains,
@@ -60,6 +63,7 @@ fn remove_others(
 fn forbid_pattern(
     count: usize,
     weights: &[u32],
+    logs: &[f32],
     cell: usize,
     pattern: usize,
     domains: &mut [u64],
@@ -69,7 +73,7 @@ fn forbid_pattern(
     pile: Pile,
 ) -> Pile
     requires { ⌜ Lent count (length (now domains)) (now domains) (now counts) (now pending) pile ⌝ }
-    requires { ⌜ Weighed count (now weights) × ((p : ℕ) → weighted (now weights) p ≡ true → length (now floats) ≡ 2 * length (now domains)) ⌝ }
+    requires { ⌜ Weighed count (now weights) × ((p : ℕ) → weighted (now weights) p ≡ true → length (now floats) ≡ 2 * length (now domains)) × Logs (now logs) ⌝ }
     requires { ⌜ (cell < length (now domains)) × (pattern < count) ⌝ }
     ensures { λ r. ⌜ ((marks : List ℕ) → stateOf count (now (domains .exit)) (now (counts .exit)) (now (pending .exit)) r (beside (now (floats .exit)) marks)
         ≡ forbids count (lessened (now (weights .entry))) (removal cell pattern ∷ [])
@@ -79,6 +83,7 @@ fn forbid_pattern(
         return propagation::inner::remove(
             count,
             weights,
+            logs,
             cell,
             pattern,
             domains,
@@ -95,6 +100,7 @@ fn forbid_pattern(
 fn strike(
     count: usize,
     weights: &[u32],
+    logs: &[f32],
     cell: usize,
     pattern: usize,
     keep: u32,
@@ -105,7 +111,7 @@ fn strike(
     pile: Pile,
 ) -> Pile
     requires { ⌜ Lent count (length (now domains)) (now domains) (now counts) (now pending) pile ⌝ }
-    requires { ⌜ Weighed count (now weights) × ((p : ℕ) → weighted (now weights) p ≡ true → length (now floats) ≡ 2 * length (now domains)) ⌝ }
+    requires { ⌜ Weighed count (now weights) × ((p : ℕ) → weighted (now weights) p ≡ true → length (now floats) ≡ 2 * length (now domains)) × Logs (now logs) ⌝ }
     requires { ⌜ (cell < length (now domains)) × (pattern < count) ⌝ }
     ensures { λ r. ⌜ ((marks : List ℕ) → stateOf count (now (domains .exit)) (now (counts .exit)) (now (pending .exit)) r (beside (now (floats .exit)) marks)
         ≡ forbids count (lessened (now (weights .entry))) (asked count (asking cell pattern keep))
@@ -115,6 +121,7 @@ fn strike(
         return forbid_pattern(
             count,
             weights,
+            logs,
             cell,
             pattern,
             domains,
@@ -127,6 +134,7 @@ fn strike(
     remove_others(
         count,
         weights,
+        logs,
         cell,
         pattern,
         domains,
@@ -144,6 +152,7 @@ pub(crate) fn lay(
     ids: &[u8],
     weights: &[u32],
     weighted: u64,
+    logs: &[f32],
     width: usize,
     height: usize,
     mode: usize,
@@ -159,7 +168,7 @@ pub(crate) fn lay(
 ) -> Pile
     requires { ⌜ Lent count (length (now domains)) (now domains) (now counts) (now pending) idle ⌝ }
     requires { ⌜ Ground (table count (now offsets) (now ids)) (grid width height mode) (length (now domains)) ⌝ }
-    requires { ⌜ Room count (length (now domains)) (now weights) (now noise) (now floats) (now marks) × (weighted ≡ mask (now weights)) ⌝ }
+    requires { ⌜ Room count (length (now domains)) (now weights) (now noise) (now floats) (now marks) × (weighted ≡ mask (now weights)) × Logs (now logs) ⌝ }
     requires { ⌜ (cell < length (now domains)) × (pattern < count) ⌝ }
     ensures { λ r. ⌜ (stateOf count (now (domains .exit)) (now (counts .exit)) (now (pending .exit)) r (besideIn (length (now (domains .exit))) (now (floats .exit)) (now (marks .exit)))
         ≡ laid (given (table count (now (offsets .entry)) (now (ids .entry))) (now (weights .entry)) (grid width height mode) (now (noise .entry))) (asking cell pattern keep)
@@ -170,6 +179,7 @@ pub(crate) fn lay(
     let pile = strike(
         count,
         weights,
+        logs,
         cell,
         pattern,
         keep,
@@ -188,6 +198,7 @@ pub(crate) fn lay(
         ids,
         weights,
         weighted,
+        logs,
         width,
         height,
         mode,

@@ -10,6 +10,7 @@ ghost use Rattle.adjacency.specs.Weights.{Weighed, mask};
 ghost use Rattle.grid.specs.Grid.{Grid};
 ghost use Rattle.grid.specs.Grid as grids;
 ghost use Rattle.logarithms.specs.Entropy.{running};
+ghost use Rattle.logarithms.specs.Logs.{Logs};
 ghost use Rattle.consistency.specs.Worklist.{state};
 ghost use Rattle.propagation.specs.Beside.{besideIn};
 ghost use Rattle.run.specs.Run.{firstCount, firstEntropy, given, begun};
@@ -66,15 +67,15 @@ fn first_count(weights: &[u32], weighted: u64) -> u8
 }
 
 // The entropy that each cell's note starts with, +0 where there is no note.
-fn first_entropy(count: usize, weights: &[u32], weighted: u64, value: f32) -> f32
-    requires { ⌜ (1 ≤ count) × (count ≤ 64) × Weighed count (now weights) × (weighted ≡ mask (now weights)) × (value ≡ running (now weights)) ⌝ }
+fn first_entropy(count: usize, weights: &[u32], weighted: u64, logs: &[f32], value: f32) -> f32
+    requires { ⌜ Logs (now logs) × (1 ≤ count) × (count ≤ 64) × Weighed count (now weights) × (weighted ≡ mask (now weights)) × (value ≡ running (now weights)) ⌝ }
     ensures { λ r. ⌜ r ≡ firstEntropy (now (weights .entry)) ⌝ }
 {
     if first_count(weights, weighted) == 0 {
         return 0.0;
     }
     let sum = adjacency::inner::weight_sum(weights, words::inner::full_word(count));
-    logarithms::inner::entropy_from(sum, value)
+    logarithms::inner::entropy_from(logs, sum, value)
 }
 
 // The first `many` words are one word.
@@ -118,8 +119,9 @@ fn begin_floats(count: usize, weights: &[u32], weighted: u64, cells: usize, floa
     requires { ⌜ (1 ≤ count) × (count ≤ 64) × Weighed count (now weights) × (weighted ≡ mask (now weights)) × (length (now floats) ≡ 2 * cells) ⌝ }
     ensures { λ _. ⌜ now (floats .exit) ≡ replicate cells (running (now (weights .entry))) ++ replicate cells (firstEntropy (now (weights .entry))) ⌝ }
 {
-    let value = logarithms::inner::running(weights);
-    let entropy = first_entropy(count, weights, weighted, value);
+    let logs = logarithms::inner::logs();
+    let value = logarithms::inner::running(&logs, weights);
+    let entropy = first_entropy(count, weights, weighted, &logs, value);
     fill_floats(floats.len(), entropy, floats);
     fill_floats(cells, value, floats);
 }

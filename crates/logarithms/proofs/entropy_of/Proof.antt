@@ -1,6 +1,7 @@
 -- `logarithms::entropy_of` meets its contract: an accepted domain has what the sum over it needs, and the two ways on are by whether that sum is 0.
 -- Assumes nothing.
 use mathlib.Core.Path.{_≡_, sym, ap, _∙_}
+use Prim.Native.Nat.{_≤_}
 use native.Mathlib.Omega.{arith}
 use borrow.Author.Needs.{needs}
 use Rattle.refusals.specs.Refusals.{numberOf}
@@ -37,14 +38,27 @@ returns c =
     let a = at .before .before .before .before .args in
     told-nothing (a .count) (a .weights .now) (a .domain) (accepted at) (sym (c .before .weight-sum .ensures) ∙ c .if1 .taken)
 
+logs-requires : tie.Need-logs-requires
+logs-requires c κs = search needs
+
+slice-aggregate-entropy-from : tie.Need-slice-aggregate-entropy-from
+slice-aggregate-entropy-from c = search needs
+
+slice-aggregate-less : tie.Need-slice-aggregate-less
+slice-aggregate-less c = search needs
+
 less-requires : tie.Need-less-requires
-less-requires c κs = bounded (c .before .before)
+less-requires c κs = (c .before .before .logs .ensures, bounded (c .before .before .before .before .before))
 
 entropy-from-requires : tie.Need-entropy-from-requires
 entropy-from-requires c κs =
-    let at = c .before .before .before in
+    let left = c .before .before .before .before in
+    let at = left .before .before in
     let a = at .before .before .before .before .args in
-    omega (arith, c .before .before .weight-sum .ensures, c .before .if1 .left, weightSum-le (a .weights .now) (a .domain), bounded at .light)
+    let sum = left .before .weight-sum in
+    let some : 1 ≤ sum .result = omega (arith, left .if1 .left) in
+    let few : sum .result ≤ 1024 = omega (arith, sum .ensures, weightSum-le (a .weights .now) (a .domain), bounded at .light) in
+    (c .before .before .before .logs .ensures, some, few)
 
 returns-2 : tie.Need-returns-2
 returns-2 c =
@@ -54,10 +68,11 @@ returns-2 c =
 
 returns-3 : tie.Need-returns-3
 returns-3 c =
-    let at = c .before .before .before .before in
+    let left = c .before .before .before .before .before in
+    let at = left .before .before in
     let a = at .before .before .before .before .args in
-    let sum = c .before .before .before .weight-sum .ensures in
-    told-entropy (a .count) (a .weights .now) (a .domain) (accepted at) (λ z. c .before .before .if1 .left (sum ∙ z))
+    let sum = left .before .weight-sum .ensures in
+    told-entropy (a .count) (a .weights .now) (a .domain) (accepted at) (λ z. left .if1 .left (sum ∙ z))
     (rw (← sum, ← c .before .less .ensures) (c .entropy-from .ensures))
 
 pub entropy-of-spec : {M : Type 1} → statement M
@@ -69,6 +84,9 @@ entropy-of-spec =
     enum-told
     weight-sum-requires
     returns
+    logs-requires
+    slice-aggregate-entropy-from
+    slice-aggregate-less
     less-requires
     entropy-from-requires
     returns-2

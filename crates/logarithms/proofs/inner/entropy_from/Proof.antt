@@ -14,7 +14,7 @@ log2-requires c κs = search needs
 
 int-to-float-result : tie.Need-int-to-float-result
 unfolding inFloat
-int-to-float-result c = le→leb (c .before .before .args .sum) (2 ^ 24) (omega arith)
+int-to-float-result c = le→leb (c .before .before .before .args .sum) (2 ^ 24) (omega arith)
 
 returns : tie.Need-returns
 unfolding entropy

@@ -16,17 +16,17 @@ use Rattle.logarithms.proofs.inner.less.Statement.{statement}
 use Rattle.logarithms.proofs.inner.less.Tie as tie
 
 abbrev Inv-loop : tie.InvT-loop
-Inv-loop weights word value₀ p₀ value p = (p ≤ length weights) × (steps (missingAt weights word) p (length weights - p) value ≡ less weights word)
+Inv-loop logs weights word value₀ p₀ value p = (p ≤ length weights) × (steps (missingAt weights word) p (length weights - p) value ≡ less weights word)
 
 abbrev μ-loop : tie.MeasureT-loop
-μ-loop weights word value₀ p₀ value p = length weights - p
+μ-loop logs weights word value₀ p₀ value p = length weights - p
 
 running-requires : tie.Need-running-requires Inv-loop μ-loop
-running-requires c κs = c .before .pre .light
+running-requires c κs = (c .before .before .pre .0, c .before .before .pre .1 .light)
 
 loop-holds : tie.Need-loop-holds Inv-loop μ-loop
 unfolding less
-loop-holds c = (omega arith, rw (sub-zero (length (c .before .before .args .weights .now)), c .running .ensures))
+loop-holds c = (omega arith, rw (sub-zero (length (c .before .before .before .args .weights .now)), c .running .ensures))
 
 has-pattern-requires : tie.Need-has-pattern-requires Inv-loop μ-loop
 has-pattern-requires c κs = omega arith
@@ -40,8 +40,8 @@ shared-slice-read-removed c = omega arith
 removed-requires : tie.Need-removed-requires Inv-loop μ-loop
 removed-requires c κs =
     let at = c .before .before .before .before in
-    let start = at .before .before .before in
-    weight-few (start .args .weights .now) (start .pre .light) (at .loop .p)
+    let start = at .before .before .before .before in
+    (start .pre .0, weight-few (start .args .weights .now) (start .pre .1 .light) (at .loop .p))
 
 add-p : tie.Need-add-p Inv-loop μ-loop
 add-p c = omega arith
@@ -52,7 +52,7 @@ loop-less c = omega arith
 loop-again : tie.Need-loop-again Inv-loop μ-loop
 loop-again c =
     let at = c .before .before .before in
-    let a = at .before .before .before .args in
+    let a = at .before .before .before .before .args in
     let ws = a .weights .now in
     let has-is = sym (c .before .has-pattern .ensures) in
     let turn : c .if1 .value ≡ missingAt ws (a .word) (at .loop .p) (at .loop .value) =
@@ -65,7 +65,7 @@ loop-again c =
 
 returns : tie.Need-returns Inv-loop μ-loop
 returns c =
-    let a = c .before .before .before .before .args in
+    let a = c .before .before .before .before .before .args in
     steps-end (missingAt (a .weights .now) (a .word)) (length (a .weights .now)) (c .loop-test .left) (c .before .loop .inv .1)
 
 pub less-spec : {M : Type 1} → statement M

@@ -14,14 +14,14 @@ use Rattle.logarithms.proofs.inner.running.Statement.{statement}
 use Rattle.logarithms.proofs.inner.running.Tie as tie
 
 abbrev Inv-loop : tie.InvT-loop
-Inv-loop weights value₀ p₀ value p = (p ≤ length weights) × (steps (addedAt weights) p (length weights - p) value ≡ running weights)
+Inv-loop logs weights value₀ p₀ value p = (p ≤ length weights) × (steps (addedAt weights) p (length weights - p) value ≡ running weights)
 
 abbrev μ-loop : tie.MeasureT-loop
-μ-loop weights value₀ p₀ value p = length weights - p
+μ-loop logs weights value₀ p₀ value p = length weights - p
 
 loop-holds : tie.Need-loop-holds Inv-loop μ-loop
 unfolding running
-loop-holds c = (omega arith, rw (sub-zero (length (c .before .args .weights .now))))
+loop-holds c = (omega arith, rw (sub-zero (length (c .before .before .args .weights .now))))
 
 mul-added : tie.Need-mul-added Inv-loop μ-loop
 mul-added c = search needs
@@ -32,7 +32,8 @@ shared-slice-read-added c = search needs
 added-requires : tie.Need-added-requires Inv-loop μ-loop
 added-requires c κs =
     let at = c .before .before in
-    weight-few (at .before .before .args .weights .now) (at .before .before .pre) (at .loop .p)
+    let s = at .before .before .before in
+    (s .pre .0, weight-few (s .args .weights .now) (s .pre .1) (at .loop .p))
 
 add-p : tie.Need-add-p Inv-loop μ-loop
 add-p c = search needs
@@ -44,12 +45,12 @@ loop-again : tie.Need-loop-again Inv-loop μ-loop
 unfolding addedAt
 loop-again c =
     let at = c .before .before .before in
-    let ws = at .before .before .args .weights .now in
+    let ws = at .before .before .before .args .weights .now in
     (omega arith, steps-turn (addedAt ws) (length ws) (c .before .before .loop-test .taken) (c .added .ensures) (at .loop .inv .1))
 
 returns : tie.Need-returns Inv-loop μ-loop
 returns c =
-    let ws = c .before .before .before .args .weights .now in
+    let ws = c .before .before .before .before .args .weights .now in
     steps-end (addedAt ws) (length ws) (c .loop-test .left) (c .before .loop .inv .1)
 
 pub running-spec : {M : Type 1} → statement M

@@ -11,7 +11,7 @@ use Rattle.logarithms.proofs.inner.w_log_w.Tie as tie
 
 int-to-float-result : tie.Need-int-to-float-result
 unfolding inFloat
-int-to-float-result c = le→leb (c .before .args .weight) (2 ^ 24) (omega arith)
+int-to-float-result c = le→leb (c .before .before .args .weight) (2 ^ 24) (omega arith)
 
 log2-requires : tie.Need-log2-requires
 log2-requires c κs = search needs

@@ -17,17 +17,17 @@ low : (s : tie.Start) → s .args .pile .top < length (s .args .pending .now)
 low s = pile-low (s .pre .0) (s .pre .1 .1 .0) (s .pre .1 .1 .1) (s .pre .1 .1 .2)
 
 mul-slot : tie.Need-mul-slot
-mul-slot c = omega (arith, small (c .before .before .before .before .before))
+mul-slot c = omega (arith, small (c .before .before .before .before .before .before))
 
 add-slot : tie.Need-add-slot
-add-slot c = omega (arith, small (c .before .before .before .before .before))
+add-slot c = omega (arith, small (c .before .before .before .before .before .before))
 
 mul-clear-all-directions : tie.Need-mul-clear-all-directions
-mul-clear-all-directions c = omega (arith, small (c .before .before .before .before .before .before))
+mul-clear-all-directions c = omega (arith, small (c .before .before .before .before .before .before .before))
 
 clear-all-directions-requires : tie.Need-clear-all-directions-requires
 clear-all-directions-requires c κs =
-    let s = c .before .before .before .before .before .before in
+    let s = c .before .before .before .before .before .before .before in
     place-below (s .pre .0) (s .pre .1 .1 .0) (s .pre .1 .1 .1) 3 (lit< tt)
 
 mul-without-pattern : tie.Need-mul-without-pattern
@@ -46,13 +46,13 @@ slice-write-domains : tie.Need-slice-write-domains
 slice-write-domains c = search needs
 
 narrow-requires : tie.Need-narrow-requires
-narrow-requires c κs = small (c .before .before .before .before .before .before .before .before .before .before .before)
+narrow-requires c κs = small (c .before .before .before .before .before .before .before .before .before .before .before .before)
 
 mul-pending : tie.Need-mul-pending
-mul-pending c = omega (arith, low (c .before .before .before .before .before .before .before .before .before .before .before .before))
+mul-pending c = omega (arith, low (c .before .before .before .before .before .before .before .before .before .before .before .before .before))
 
 slice-write-pending : tie.Need-slice-write-pending
-slice-write-pending c = low (c .before .before .before .before .before .before .before .before .before .before .before .before)
+slice-write-pending c = low (c .before .before .before .before .before .before .before .before .before .before .before .before .before)
 
 mul-weight : tie.Need-mul-weight
 mul-weight c = search needs
@@ -62,12 +62,12 @@ shared-slice-read-weight c = search needs
 
 lessen-requires : tie.Need-lessen-requires
 lessen-requires c κs =
-    let s = c .before .before .before .before .before .before .before .before .before .before .before .before .before .before in
-    let (weighed, valued) = s .pre .1 .0 in
-    (weight-light weighed (s .args .pattern), λ n. omega (arith, valued (s .args .pattern) (true-weighted _ _ (omega arith)), s .pre .1 .1 .0))
+    let s = c .before .before .before .before .before .before .before .before .before .before .before .before .before .before .before in
+    let (weighed, valued, logs) = s .pre .1 .0 in
+    (logs, weight-light weighed (s .args .pattern), λ n. omega (arith, valued (s .args .pattern) (true-weighted _ _ (omega arith)), s .pre .1 .1 .0))
 
-add-t14 : tie.Need-add-t14
-add-t14 c = omega (arith, low (c .before .before .before .before .before .before .before .before .before .before .before .before .before .before .before .before .before))
+add-t15 : tie.Need-add-t15
+add-t15 c = omega (arith, low (c .before .before .before .before .before .before .before .before .before .before .before .before .before .before .before .before .before .before))
 
 same-length : tie.Need-same-length
 same-length c = search needs
@@ -87,7 +87,7 @@ returns c =
     let narrowed = lessened .before .before .before in
     let word = narrowed .before in
     let cleared = word .before .before .before .before in
-    let s = cleared .before .before .before .before .before .before .before in
+    let s = cleared .before .before .before .before .before .before .before .before in
     remove-is _ _ _ _ _ _ _ (s .pre .1 .1 .1) (low s) (word .without-pattern .ensures) (cleared .clear-all-directions .ensures) (narrowed .narrow .ensures)
     (lessened .lessen .ensures)
 
@@ -110,7 +110,7 @@ remove-spec =
     mul-weight
     shared-slice-read-weight
     lessen-requires
-    add-t14
+    add-t15
     same-length
     same-length-2
     same-length-3

@@ -7,19 +7,19 @@ use Rattle.propagation.proofs.notes.lessen.Statement.{statement}
 use Rattle.propagation.proofs.notes.lessen.Tie as tie
 
 mul-removed : tie.Need-mul-removed
-mul-removed c = omega (arith, c .before .before .pre .1 (c .if1 .taken))
+mul-removed c = omega (arith, c .before .before .before .pre .2 (c .if1 .taken))
 
 slice-read-removed : tie.Need-slice-read-removed
-slice-read-removed c = c .before .before .before .pre .1 (c .before .if1 .taken)
+slice-read-removed c = c .before .before .before .before .pre .2 (c .before .if1 .taken)
 
 removed-requires : tie.Need-removed-requires
 removed-requires c κs = search needs
 
 mul-floats : tie.Need-mul-floats
-mul-floats c = omega (arith, c .before .before .before .before .pre .1 (c .before .before .if1 .taken))
+mul-floats c = omega (arith, c .before .before .before .before .before .pre .2 (c .before .before .if1 .taken))
 
 slice-write-floats : tie.Need-slice-write-floats
-slice-write-floats c = c .before .before .before .before .pre .1 (c .before .before .if1 .taken)
+slice-write-floats c = c .before .before .before .before .before .pre .2 (c .before .before .if1 .taken)
 
 same-length : tie.Need-same-length
 same-length c = search needs

@@ -17,7 +17,7 @@ use Rattle.propagation.proofs.notes.propose.Tie as tie
 
 -- the function's entry, from behind the test
 abbrev start : tie.Then1 → tie.Start
-start c = c .before .before .before .before .before .before
+start c = c .before .before .before .before .before .before .before
 
 -- there is room, and weight is left
 some : (c : tie.Then1) → let a = start c .args in Roomy (a .cells) (a .noise .now) (a .floats .now) (a .marks .now) × (1 ≤ weightSum (a .weights .now) (a .word))
@@ -51,7 +51,10 @@ slice-read-entropy-from c = omega (arith, some (c .before .before) .0)
 entropy-from-requires : tie.Need-entropy-from-requires
 entropy-from-requires c κs =
     let s = start (c .before .before) in
-    omega (arith, c .before .weight-sum .ensures, some (c .before .before) .1, weightSum-le (s .args .weights .now) (s .args .word), s .pre .0 .0 .weighed .light)
+    let sum = c .before .weight-sum in
+    let one : 1 ≤ sum .result = omega (arith, sum .ensures, some (c .before .before) .1) in
+    let few : sum .result ≤ 1024 = omega (arith, sum .ensures, weightSum-le (s .args .weights .now) (s .args .word), s .pre .0 .0 .weighed .light) in
+    (s .pre .0 .2, one, few)
 
 shared-requires : tie.Need-shared-requires
 shared-requires c κs = search needs

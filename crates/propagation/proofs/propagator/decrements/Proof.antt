@@ -11,23 +11,24 @@ use Rattle.propagation.specs.Watching.{watching}
 use Rattle.loops.proofs.LoopLaws.{each-turn, each-end}
 use Rattle.adjacency.proofs.ListLaws.{allBelow-at}
 use Rattle.consistency.proofs.Keep.{safe-decrement}
-use Rattle.propagation.proofs.LentLaws.{lent-safe, slot-small, place-below, memory, stateIn, Going, going-start, going-on}
+use Rattle.propagation.proofs.LentLaws.{lent-safe, slot-small, place-below, memory, piled, stateIn, Going, going-start, going-on}
 use Rattle.propagation.proofs.PropagatorLaws.{lent-last, possible-last, decrement-last, decrement-more, decrements-each}
 use Rattle.propagation.proofs.propagator.decrements.Statement.{statement}
 use Rattle.propagation.proofs.propagator.decrements.Tie as tie
 
 abbrev Inv-loop : tie.InvT-loop
-Inv-loop count weights weighted noise cells cell d list domains₀ counts₀ pending₀ floats₀ marks₀ base next₀ i₀ domains counts pending floats marks next i =
-    (each (decrement count (watching weights noise cells) cell d) (drop i list) (stateIn count (memory domains counts pending floats marks) next)
-    ≡ each (decrement count (watching weights noise cells) cell d) list (stateIn count (memory domains₀ counts₀ pending₀ floats₀ marks₀) next₀))
-    × Going count cells weights noise (memory domains₀ counts₀ pending₀ floats₀ marks₀) (memory domains counts pending floats marks) next
+Inv-loop count weights weighted logs noise cells cell d list domains₀ counts₀ pending₀ floats₀ marks₀ base top₀ empty₀ i₀ domains counts pending floats marks top empty i =
+    (each (decrement count (watching weights noise cells) cell d) (drop i list) (stateIn count (memory domains counts pending floats marks) (piled top empty))
+    ≡ each (decrement count (watching weights noise cells) cell d) list (stateIn count (memory domains₀ counts₀ pending₀ floats₀ marks₀) (piled top₀ empty₀)))
+    × Going count cells weights noise (memory domains₀ counts₀ pending₀ floats₀ marks₀) (memory domains counts pending floats marks) (piled top empty)
 
 abbrev μ-loop : tie.MeasureT-loop
-μ-loop count weights weighted noise cells cell d list domains₀ counts₀ pending₀ floats₀ marks₀ base next₀ i₀ domains counts pending floats marks next i = length list - i
+μ-loop count weights weighted logs noise cells cell d list domains₀ counts₀ pending₀ floats₀ marks₀ base top₀ empty₀ i₀ domains counts pending floats marks top empty i =
+    length list - i
 
 -- the function's entry, from the loop's head
 abbrev start : tie.At-loop Inv-loop μ-loop → tie.Start Inv-loop μ-loop
-start l = l .before .before .before .before .before .before .before .before .before
+start l = l .before .before .before .before .before .before .before .before .before .before
 
 -- the pattern that a turn reads
 read : (c : tie.After-wide Inv-loop μ-loop) → c .wide .result < start (c .before .before .before) .args .count
@@ -46,12 +47,12 @@ small c =
 
 mul-base : tie.Need-mul-base Inv-loop μ-loop
 mul-base c =
-    let s = c .before .before .before .before .before .before .before .before in
+    let s = c .before .before .before .before .before .before .before .before .before in
     omega (arith, slot-small (s .pre .0) (s .pre .1 .1 .0) (s .pre .0 .some))
 
 loop-holds : tie.Need-loop-holds Inv-loop μ-loop
 loop-holds c =
-    let (lent, ((room, _), _)) = c .before .before .before .before .before .before .before .before .pre in
+    let (lent, ((room, _, _), _)) = c .before .before .before .before .before .before .before .before .before .pre in
     (refl, going-start lent room)
 
 shared-slice-read-wide : tie.Need-shared-slice-read-wide Inv-loop μ-loop
@@ -63,7 +64,7 @@ wide-requires c κs = tt
 add-i : tie.Need-add-i Inv-loop μ-loop
 add-i c =
     let test = c .before .before in
-    omega (arith, test .loop-test .taken, start (test .before) .good .1 .1 .1 .1 .1 .1 .1 .0)
+    omega (arith, test .loop-test .taken, start (test .before) .good .1 .1 .1 .1 .1 .1 .1 .1 .0)
 
 add-try-decrement : tie.Need-add-try-decrement Inv-loop μ-loop
 add-try-decrement c = omega (arith, small (c .before))
@@ -86,11 +87,11 @@ remove-and-propose-requires c κs =
     let tried = then .before .before .before in
     let wide = tried .before .before in
     let head = wide .before .before .before in
-    let (lent, ((room, masked), (hc, hd, below))) = start head .pre in
+    let (lent, ((room, masked, logs), (hc, hd, below))) = start head .pre in
     let going = head .loop .inv .1 in
     let t = tried .try-decrement .ensures in (
       lent-last (going .lent) hc hd (read wide) t (then .if1 .taken),
-      ((going .room, masked), (hc, read wide, possible-last (going .lent) hc hd (read wide) t (then .if1 .taken))),
+      ((going .room, masked, logs), (hc, read wide, possible-last (going .lent) hc hd (read wide) t (then .if1 .taken))),
     )
 
 loop-less : tie.Need-loop-less Inv-loop μ-loop
@@ -106,7 +107,7 @@ loop-again c =
     let head = test .before in
     let (lent, (room, (hc, hd, below))) = start head .pre in
     let (left, going) = head .loop .inv in
-    let (domains, (counts, rest)) = called .remove-and-propose .kept .1 .1 .1 .1 .1 .1 .1 in
+    let (domains, (counts, rest)) = called .remove-and-propose .kept .1 .1 .1 .1 .1 .1 .1 .1 in
     let step = decrement-last (going .lent) hc hd (read wide) (tried .try-decrement .ensures) _ _ (then .if1 .taken) (called .remove-and-propose .ensures) in (
       each-turn _ _ (test .loop-test .taken) (wide .wide .ensures) step left,
       going-on going step (safe-decrement _ _ _ _ _ _ _ _ hc hd (read wide) (lent-safe (going .lent) _)) (domains, (counts ∙ tried .try-decrement .kept .0, rest)),

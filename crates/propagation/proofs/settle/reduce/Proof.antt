@@ -15,12 +15,15 @@ use Rattle.propagation.proofs.settle.reduce.Tie as tie
 begin-requires : tie.Need-begin-requires
 begin-requires c κs = search needs
 
+logs-requires : tie.Need-logs-requires
+logs-requires c κs = search needs
+
 array-share-prefix-weights : tie.Need-array-share-prefix-weights
 array-share-prefix-weights c = search needs
 
 slice-aggregate-propagate : tie.Need-slice-aggregate-propagate
 slice-aggregate-propagate c =
-    let s = c .before .before .before .before .before .before .before .before .before .before .before .before .before .before in
+    let s = c .before .before .before .before .before .before .before .before .before .before .before .before .before .before .before in
     sym (ap length (take-zeros (s .args .count) 64 (s .pre .1 .patterns)) ∙ length-replicate (s .args .count) 0)
 
 slice-aggregate-propagate-2 : tie.Need-slice-aggregate-propagate-2
@@ -32,15 +35,19 @@ slice-aggregate-propagate-3 c = search needs
 slice-aggregate-propagate-4 : tie.Need-slice-aggregate-propagate-4
 slice-aggregate-propagate-4 c = search needs
 
+slice-aggregate-propagate-5 : tie.Need-slice-aggregate-propagate-5
+slice-aggregate-propagate-5 c = search needs
+
 propagate-requires : tie.Need-propagate-requires
 propagate-requires c κs =
-    let began = c .before .before .before .before .before .before .before .before .before .before .before in
+    let made = c .before .before .before .before .before .before .before .before in
+    let began = made .before .before .before .before .before in
     let s = began .before .before .before .before .before .before .before .before .before in
     let t = table (s .args .count) (s .args .offsets .now) (s .args .ids .now) in
     let g = grid (s .args .width) (s .args .height) (s .args .mode) in
     let zeros = take-zeros (s .args .count) 64 (s .pre .1 .patterns) in (
       lent-begun t g (s .args .domains .now) (s .pre .0) (s .pre .1 .fit) (s .pre .1) (began .begin .kept .1 .1 .1 .1 .1 .0) (began .begin .ensures),
-      (s .pre .0, (rw zeros (room-none (s .args .count) _ _ _ _ (omega (arith, s .pre .1 .cells, length-replicate {A = ℕ} 2080 0))), rw zeros (sym (mask-none (s .args .count))))),
+      (s .pre .0, (rw zeros (room-none (s .args .count) _ _ _ _ (omega (arith, s .pre .1 .cells, length-replicate {A = ℕ} 2080 0))), rw zeros (sym (mask-none (s .args .count))), made .logs .ensures)),
     )
 
 same-length : tie.Need-same-length
@@ -55,7 +62,7 @@ same-length-3 c = search needs
 returns : tie.Need-returns
 returns c =
     let left = c .before .before .before .before .before .before .before .before in
-    let began = left .before .before .before .before .before .before .before .before .before .before .before .before in
+    let began = left .before .before .before .before .before .before .before .before .before .before .before .before .before .before in
     let s = began .before .before .before .before .before .before .before .before .before in
     let t = table (s .args .count) (s .args .offsets .now) (s .args .ids .now) in
     let g = grid (s .args .width) (s .args .height) (s .args .mode) in
@@ -67,11 +74,13 @@ reduce-spec =
     tie.close
     (tie.spec
     begin-requires
+    logs-requires
     array-share-prefix-weights
     slice-aggregate-propagate
     slice-aggregate-propagate-2
     slice-aggregate-propagate-3
     slice-aggregate-propagate-4
+    slice-aggregate-propagate-5
     propagate-requires
     same-length
     same-length-2
