@@ -17,7 +17,7 @@ pub enum Refusal {
     BadWeights = 4,
     /// A slice has not its published length, an output is too short, or the forbids are above 4,096.
     BadLength = 5,
-    /// The offsets do not fit, or a list is empty, not strictly ascending, or names no pattern.
+    /// The offsets do not fit, or a list has no id, does not ascend strictly, or names no pattern.
     BadList = 6,
     /// Some q is in p's list for a direction while p is not in q's list for the opposite one.
     Disagree = 7,

@@ -63,7 +63,7 @@ pub const WEST: usize = 3;
 pub struct Table<'a> {
     /// How many patterns there are, P: 1 to 64.
     pub count: usize,
-    /// 4P + 1 offsets into the ids, from 0 up to their number: list 4p + d is what may stand in direction d of pattern p.
+    /// 4P + 1 offsets into the ids, from 0 up to their number: list 4p + d has what may be the neighbour of pattern p in direction d.
     pub offsets: &'a [u32],
     /// The lists, each strictly ascending and not empty.
     pub ids: &'a [u8],
@@ -71,7 +71,7 @@ pub struct Table<'a> {
     pub weights: &'a [u32],
 }
 
-/// A grid, as it is lent: sides of 1 to 64, at most 1,024 cells, and one of the four modes. Cell number = y · width + x.
+/// A grid, as it is lent: sides of 1 to 64, 1,024 cells or fewer, and one of the four modes. Cell number = y · width + x.
 #[derive(Clone, Copy, Debug, PartialEq, Eq)]
 pub struct Grid {
     /// Columns.

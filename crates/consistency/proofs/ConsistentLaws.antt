@@ -78,7 +78,7 @@ module _ (t : Table) (g : Grid) (A : Accepted t) where
           ∙ times-agree t A r q d hr hq hd)
           ∙ times-sum (t .count) (listOf t q (opposite d)) (A .listed .below q (opposite d) hq (opposite-below d hd))
 
-  -- every list is non-empty, so full domains are consistent
+  -- full domains are consistent, for no list is empty
   pub full-consistent : Consistent t g (filled (t .count) (cells g))
   full-consistent =
       supported-consistent (filled (t .count) (cells g)) (fit-filled (t .count) (cells g))

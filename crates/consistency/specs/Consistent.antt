@@ -8,7 +8,7 @@ use Rattle.adjacency.specs.Tables.{Table, inList}
 use Rattle.grid.specs.Grid.{Grid, cells, neighbour}
 use Rattle.consistency.specs.Domains.{possible, Fit, Sub}
 
--- for each cell c, pattern p possible there and direction d with a neighbour n, some q possible at n is in p's list for d
+-- wherever pattern p is possible at a cell c that has n for a neighbour in direction d, p's list for d has some q that is possible at n
 abbrev pub Consistent : Table → Grid → List ℕ → Type 0
 Consistent t g D =
     (c p d n : ℕ) → d < 4 → possible D c p ≡ 1 → neighbour g c d ≡ some n → (q : ℕ) × inList t p d q × (possible D n q ≡ 1)

@@ -1,4 +1,4 @@
--- The work list in its order: last removed first, directions 0 to 3, list order; a pattern goes when one of its four supports reaches zero.
+-- The work list in its order: what was removed last is worked off first, by direction 0, 1, 2, 3 and by the list's order; without a support from some direction a pattern goes.
 -- What is kept beside the domains at a removal is a parameter, so that the theorem does not depend on it. Follows docs/RULES.md, "Propagation".
 -- Assumes nothing.
 use mathlib.Core.Bool.{Bool, cond, _||_}

@@ -1,4 +1,4 @@
--- Directions 0 North (y-1), 1 East (x+1), 2 South (y+1), 3 West (x-1), as tables. Follows docs/RULES.md, "Directions".
+-- The four directions by number, North, East, South, West: their opposites and steps, as tables. Follows docs/RULES.md, "Directions".
 -- Assumes nothing.
 use mathlib.Core.Bool.{Bool}
 use mathlib.Core.List.{List, [], _∷_}

@@ -1,4 +1,4 @@
--- The grid: width, height and wrap mode (0 none, 1 x, 2 y, 3 both); cell = y times width + x. Follows docs/RULES.md, "Grid".
+-- The grid: width, height and wrap mode, where 1 joins east and west, 2 north and south, 3 both; cells are numbered row by row. Follows docs/RULES.md, "Grid".
 -- Assumes nothing.
 use mathlib.Core.Bool.{Bool, cond, _||_}
 use mathlib.Core.Option.{Option, none, some}

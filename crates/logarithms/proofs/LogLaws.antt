@@ -92,7 +92,7 @@ log-power k h =
     ∙ ap (ofBits binary32) (eqb→eq (getD logBits (2 ^ k - 1) past) (toBits binary32 (ofInt binary32 (pos k))) (all-at power 11 passes-powers k (suc-le-suc h)))
     ∙ ofBits-toBits binary32 (ofInt binary32 (pos k)) (ofInt-fits binary32 (pos k))
 
--- with F the floor of 64 times the entry for n, 2 ^ F is at most 2 n ^ 64, and n ^ 64 is below 4 times 2 ^ F
+-- how near an entry is to the logarithm, by its 64-fold without the fraction
 pub log-bounds : (n : ℕ) → 1 ≤ n → n ≤ 1024 → (2 ^ floor64 (logOf n) ≤ 2 * n ^ 64) × (n ^ 64 < 4 * 2 ^ floor64 (logOf n))
 unfolding sound fair
 log-bounds n p h =

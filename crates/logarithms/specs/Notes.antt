@@ -1,4 +1,4 @@
--- What is noted of a cell: an entropy, a noise word and a weighted count. Follows docs/RULES.md, "Run".
+-- What is noted of a cell: its entropy, with its noise word and how many of its patterns have weight. Follows docs/RULES.md, "Run".
 -- Assumes nothing.
 use mathlib.Core.Bool.{cond}
 use mathlib.Core.List.{List}
@@ -7,7 +7,7 @@ use lib.Ieee.{Float, nan, lt}
 use lib.ListN.{getD}
 use Rattle.logarithms.specs.declared.inner.Note.{Note}
 
--- the note of an entropy, a noise word and a weighted count
+-- a note from its parts
 abbrev pub note : Float → ℕ → ℕ → Note
 note entropy noise count = record { entropy = entropy; noise = noise; count = count }
 
@@ -15,6 +15,6 @@ note entropy noise count = record { entropy = entropy; noise = noise; count = co
 abbrev pub noteOf : List ℕ → ℕ → ℕ → List Float → List ℕ → Note
 noteOf noise cells c floats marks = note (getD floats (cells + c) nan) (getD noise c 0) (getD marks c 0)
 
--- a later entropy, with its count, replaces the noted one only if strictly less
+-- a later entropy, with its count, takes the place of the noted one where it is strictly less
 unfoldable pub lowered : Note → Float → ℕ → Note
 lowered n entropy count = cond (lt entropy (n .entropy)) (note entropy (n .noise) count) n

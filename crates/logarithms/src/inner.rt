@@ -123,7 +123,7 @@ pub fn check_domain(count: usize, weights: &[u32], domain: u64) -> Verdict
 
 // ---- notes
 
-// What is noted of a cell: an entropy, a noise word and a weighted count.
+// What is noted of a cell: its entropy, with its noise word and how many of its patterns have weight.
 pub struct Note {
     pub entropy: f32,
     pub noise: u32,

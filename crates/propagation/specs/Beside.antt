@@ -44,7 +44,7 @@ module _ (weights : List ℕ) where
   unfolding lessenedBy
   lessened u D x = lessenedBy (weightOf weights (u .pattern)) (u .cell) x
 
-  -- a weighted removal that leaves a weighted pattern and at least two patterns proposes an entropy; w is the cell's word after it
+  -- a removal proposes an entropy where its pattern has weight and the cell's word after it, w, has a weighted pattern and two or more in all
   unfoldable pub proposes : ℕ → ℕ → Bool
   unfolding weighted howMany mask
   proposes p w = weighted weights p && (leb 1 (weightedIn weights w) && leb 2 (howMany (length weights) w))
