@@ -6,6 +6,7 @@ use borrow.Author.Needs.{needs}
 use Rattle.adjacency.specs.Tables.{table}
 use Rattle.grid.specs.Grid.{grid}
 use Rattle.consistency.specs.Worklist.{State}
+use Rattle.propagation.specs.declared.inner.Pile.{Pile}
 use Rattle.propagation.specs.Beside.{Beside, besideIn}
 use Rattle.propagation.specs.Lent.{stateOf}
 use Rattle.run.specs.Run.{Given, given}
@@ -30,11 +31,12 @@ enum-known-end c = search needs
 enum-known-pile : tie.Need-enum-known-pile
 enum-known-pile c = search needs
 
-add-t32 : tie.Need-add-t32
-add-t32 c =
+add-t33 : tie.Need-add-t33
+add-t33 c =
     let called = c .before .before .before .before .before .before .before .before .before .before .before .before .before .before in
-    let s = called .before .before .before .before .before .before .before .before .before .before .before .before .before .before .before .before in
-    omega (arith, word-left (input s) (s .args .words .now) (s .args .used) (entry s) _ (c .before .before .pile .given .1) (called .turn .ensures .0), s .good .1 .1 .1 .1 .1 .1 .1 .1 .1 .0)
+    let s = called .before .before .before .before .before .before .before .before .before .before .before .before .before .before .before .before .before in
+    let l = called .turn .last .1 .1 .1 .1 .1 .1 .1 .1 .1 .1 .1 .1 in
+    omega (arith, word-left (input s) (s .args .words .now) (s .args .used) (entry s) (λ (pile : Pile). stateOf (s .args .count) (l .0) (l .1 .0) (l .1 .1 .0) pile (besideIn (length (l .0)) (l .1 .1 .1 .0) (l .1 .1 .1 .1 .0))) (c .before .before .pile .given .1) (called .turn .ensures .0), s .good .1 .1 .1 .1 .1 .1 .1 .1 .1 .1 .0)
 
 same-length : tie.Need-same-length
 same-length c = search needs
@@ -56,11 +58,12 @@ returns c =
     let called = c .before .before .before .before .before .before .before .before .before .before .before .before .before .before in
     (called .turn .result, stop-on _ (c .before .before .pile .given .1) (c .if1 .taken), called .turn .ensures .0, called .turn .ensures .1)
 
-add-t33 : tie.Need-add-t33
-add-t33 c =
+add-t34 : tie.Need-add-t34
+add-t34 c =
     let called = c .before .before .before .before .before .before .before .before .before .before .before .before .before .before in
-    let s = called .before .before .before .before .before .before .before .before .before .before .before .before .before .before .before .before in
-    omega (arith, word-left (input s) (s .args .words .now) (s .args .used) (entry s) _ (c .before .before .pile .given .1) (called .turn .ensures .0), s .good .1 .1 .1 .1 .1 .1 .1 .1 .1 .0)
+    let s = called .before .before .before .before .before .before .before .before .before .before .before .before .before .before .before .before .before in
+    let l = called .turn .last .1 .1 .1 .1 .1 .1 .1 .1 .1 .1 .1 .1 in
+    omega (arith, word-left (input s) (s .args .words .now) (s .args .used) (entry s) (λ (pile : Pile). stateOf (s .args .count) (l .0) (l .1 .0) (l .1 .1 .0) pile (besideIn (length (l .0)) (l .1 .1 .1 .0) (l .1 .1 .1 .1 .0))) (c .before .before .pile .given .1) (called .turn .ensures .0), s .good .1 .1 .1 .1 .1 .1 .1 .1 .1 .1 .0)
 
 same-length-6 : tie.Need-same-length-6
 same-length-6 c = search needs
@@ -109,14 +112,14 @@ advance-spec =
     turn-requires
     enum-known-end
     enum-known-pile
-    add-t32
+    add-t33
     same-length
     same-length-2
     same-length-3
     same-length-4
     same-length-5
     returns
-    add-t33
+    add-t34
     same-length-6
     same-length-7
     same-length-8

@@ -19,23 +19,23 @@ use Rattle.run.proofs.collapse.collapse.Statement.{statement}
 use Rattle.run.proofs.collapse.collapse.Tie as tie
 
 abbrev Inv-loop : tie.InvT-loop
-Inv-loop count offsets ids weights weighted width height mode noise words domains₀ counts₀ pending₀ floats₀ marks₀ stop₀ domains counts pending floats marks stop =
+Inv-loop count offsets ids weights weighted logs width height mode noise words domains₀ counts₀ pending₀ floats₀ marks₀ stop₀ domains counts pending floats marks stop =
     Turns (given (table count offsets ids) weights (grid width height mode) noise) words weighted (memory domains₀ counts₀ pending₀ floats₀ marks₀) (memory domains counts pending floats marks) stop
 
 abbrev μ-loop : tie.MeasureT-loop
-μ-loop count offsets ids weights weighted width height mode noise words domains₀ counts₀ pending₀ floats₀ marks₀ stop₀ domains counts pending floats marks stop =
+μ-loop count offsets ids weights weighted logs width height mode noise words domains₀ counts₀ pending₀ floats₀ marks₀ stop₀ domains counts pending floats marks stop =
     unended (cells (grid width height mode)) domains stop
 
 -- the function's entry, and the marks of blocks forgotten, from the loop's head
 abbrev start : tie.At-loop Inv-loop μ-loop → tie.Start Inv-loop μ-loop
-start l = l .before .before .before .before .before .before .before .before .before .before .before .before .before .before .before
+start l = l .before .before .before .before .before .before .before .before .before .before .before .before .before .before .before .before
 
 forget-requires : tie.Need-forget-requires Inv-loop μ-loop
-forget-requires c κs = let s = c .before .before .before .before .before .before .before .before .before .before .before in omega (arith, s .pre .1 .1 .1 .0)
+forget-requires c κs = let s = c .before .before .before .before .before .before .before .before .before .before .before .before in omega (arith, s .pre .1 .1 .1 .0)
 
 loop-holds : tie.Need-loop-holds Inv-loop μ-loop
 loop-holds c =
-    let s = c .before .before .before .before .before .before .before .before .before .before .before .before .before .before in
+    let s = c .before .before .before .before .before .before .before .before .before .before .before .before .before .before .before in
     let a = s .args in
     let (_, (_, (_, (long, laid)))) = s .pre in
     let e = c .before .before .forget .ensures in
@@ -44,12 +44,12 @@ loop-holds c =
 advance-requires : tie.Need-advance-requires Inv-loop μ-loop
 advance-requires c κs =
     let head = c .before .before .before .before .before .before .before in
-    let (lent, (ground, ((weighed, roomy, masked), (long, _)))) = start head .pre in
+    let (lent, (ground, ((weighed, roomy, masked, logs), (long, _)))) = start head .pre in
     let T = head .loop .inv in
     let going = c .before .before .before .before .before .if1 .taken in
     let k = c .before .before .before .before .before .before .before .before .before .before .forget .kept .1 .0 in (
       turns-lent T going (ground .all) lent,
-      (ground-at (T .kept .0) ground, ((weighed, turns-roomy T (roomy-at k roomy), masked), turns-sightly T going (k ∙ long))),
+      (ground-at (T .kept .0) ground, ((weighed, turns-roomy T (roomy-at k roomy), masked, logs), turns-sightly T going (k ∙ long))),
     )
 
 loop-less : tie.Need-loop-less Inv-loop μ-loop
@@ -57,14 +57,16 @@ loop-less c =
     let called = c .before .before .before .before .before .before .before .before .before .before in
     let head = called .before .before .before .before .before .before .before .before in
     let (step, is, turned, _) = called .advance .ensures in
-    turns-less (head .loop .inv) (called .before .before .before .before .before .before .if1 .taken) _ step turned is
+    let l = called .advance .last .1 .1 .1 .1 .1 .1 .1 .1 .1 .1 .1 .1 in
+    turns-less (head .loop .inv) (called .before .before .before .before .before .before .if1 .taken) (memory (l .0) (l .1 .0) (l .1 .1 .0) (l .1 .1 .1 .0) (l .1 .1 .1 .1 .0)) step turned is
 
 loop-again : tie.Need-loop-again Inv-loop μ-loop
 loop-again c =
     let called = c .before .before .before .before .before .before .before .before .before .before in
     let head = called .before .before .before .before .before .before .before .before in
     let (step, is, turned, found) = called .advance .ensures in
-    turns-again (head .loop .inv) (called .before .before .before .before .before .before .if1 .taken) _ (called .advance .kept .1 .1 .1 .1 .1 .1 .1 .1 .1 .1 .1) found step turned is
+    let l = called .advance .last .1 .1 .1 .1 .1 .1 .1 .1 .1 .1 .1 .1 in
+    turns-again (head .loop .inv) (called .before .before .before .before .before .before .if1 .taken) (memory (l .0) (l .1 .0) (l .1 .1 .0) (l .1 .1 .1 .0) (l .1 .1 .1 .1 .0)) (called .advance .kept .1 .1 .1 .1 .1 .1 .1 .1 .1 .1 .1 .1) found step turned is
 
 same-length : tie.Need-same-length Inv-loop μ-loop
 same-length c = c .before .before .loop .inv .kept .0
@@ -83,7 +85,7 @@ same-length-5 c = c .before .before .loop .inv .kept .1 .1 .1 .1 .0 ∙ c .befor
 
 returns : tie.Need-returns Inv-loop μ-loop
 returns c =
-    let s = c .before .before .before .before .before .before .before .before .before .before .before .before .before .before .before .before .before in
+    let s = c .before .before .before .before .before .before .before .before .before .before .before .before .before .before .before .before .before .before in
     let a = s .args in
     c .before .before .loop .inv .over (c .if1 .left)
     ∙ ap (λ (m : List ℕ). collapse (given (table (a .count) (a .offsets .now) (a .ids .now)) (a .weights .now) (grid (a .width) (a .height) (a .mode)) (a .noise .now)) (a .words .now) (cells (grid (a .width) (a .height) (a .mode)) + 1) 0

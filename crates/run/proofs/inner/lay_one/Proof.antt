@@ -1,18 +1,25 @@
 -- `run::inner::lay_one` meets its contract: a pile that emptied no cell has nothing pending.
 -- Assumes nothing.
 use borrow.Author.Needs.{needs}
+use Rattle.run.specs.Called.{memory}
 use Rattle.run.specs.Steps.{asking}
 use Rattle.run.proofs.StandingLaws.{standing-lent, standing-ground, standing-room, lay-contradicted, lay-standing}
 use Rattle.run.proofs.inner.lay_one.Statement.{statement}
 use Rattle.run.proofs.inner.lay_one.Tie as tie
 
+logs-requires : tie.Need-logs-requires
+logs-requires c κs = search needs
+
 weighted-mask-requires : tie.Need-weighted-mask-requires
 weighted-mask-requires c κs = search needs
 
+slice-aggregate-lay : tie.Need-slice-aggregate-lay
+slice-aggregate-lay c = search needs
+
 lay-requires : tie.Need-lay-requires
 lay-requires c κs =
-    let (S, hc, hp) = c .before .before .before .before .before .before .before .before .before .before .before .before .before .before .before .before .pre in
-    (standing-lent S, (standing-ground S, ((standing-room S, c .before .before .before .before .before .weighted-mask .ensures), (hc, hp))))
+    let (S, hc, hp) = c .before .before .before .before .before .before .before .before .before .before .before .before .before .before .before .before .before .before .pre in
+    (standing-lent S, (standing-ground S, ((standing-room S, c .before .before .before .before .before .before .weighted-mask .ensures, c .before .before .before .before .before .before .before .logs .ensures), (hc, hp))))
 
 same-length : tie.Need-same-length
 same-length c = search needs
@@ -32,9 +39,10 @@ same-length-5 c = search needs
 returns : tie.Need-returns
 returns c =
     let laid = c .before .before .before .before .before .before .before .before .before .before .before in
-    let s = laid .before .before .before .before .before .before .before .before .before .before .before .before .before .before .before .before .before in
+    let s = laid .before .before .before .before .before .before .before .before .before .before .before .before .before .before .before .before .before .before .before in
     let (S, hc, hp) = s .pre in
-    lay-contradicted S (asking (s .args .cell) (s .args .pattern) (s .args .keep)) hc hp _ (laid .lay .result) (laid .lay .ensures .0) (c .if1 .taken)
+    let l = laid .lay .last .1 .1 .1 .1 .1 .1 .1 .1 .1 .1 .1 .1 .1 in
+    lay-contradicted S (asking (s .args .cell) (s .args .pattern) (s .args .keep)) hc hp (memory (l .0) (l .1 .0) (l .1 .1 .0) (l .1 .1 .1 .0) (l .1 .1 .1 .1 .0)) (laid .lay .result) (laid .lay .ensures .0) (c .if1 .taken)
 
 same-length-6 : tie.Need-same-length-6
 same-length-6 c = search needs
@@ -54,15 +62,18 @@ same-length-10 c = search needs
 returns-2 : tie.Need-returns-2
 returns-2 c =
     let laid = c .before .before .before .before .before .before .before .before .before .before .before in
-    let s = laid .before .before .before .before .before .before .before .before .before .before .before .before .before .before .before .before .before in
+    let s = laid .before .before .before .before .before .before .before .before .before .before .before .before .before .before .before .before .before .before .before in
     let (S, hc, hp) = s .pre in
-    lay-standing S (asking (s .args .cell) (s .args .pattern) (s .args .keep)) hc hp _ (laid .lay .result) (laid .lay .ensures .0) (c .if1 .left)
+    let l = laid .lay .last .1 .1 .1 .1 .1 .1 .1 .1 .1 .1 .1 .1 .1 in
+    lay-standing S (asking (s .args .cell) (s .args .pattern) (s .args .keep)) hc hp (memory (l .0) (l .1 .0) (l .1 .1 .0) (l .1 .1 .1 .0) (l .1 .1 .1 .1 .0)) (laid .lay .result) (laid .lay .ensures .0) (c .if1 .left)
 
 pub lay-one-spec : {M : Type 1} → statement M
 lay-one-spec =
     tie.close
     (tie.spec
+    logs-requires
     weighted-mask-requires
+    slice-aggregate-lay
     lay-requires
     same-length
     same-length-2

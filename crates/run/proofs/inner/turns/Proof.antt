@@ -10,13 +10,19 @@ use Rattle.run.proofs.inner.turns.Tie as tie
 abbrev entry : tie.Start → Memory
 entry s = memory (s .args .domains .now) (s .args .counts .now) (s .args .pending .now) (s .args .floats .now) (s .args .marks .now)
 
+logs-requires : tie.Need-logs-requires
+logs-requires c κs = search needs
+
 weighted-mask-requires : tie.Need-weighted-mask-requires
 weighted-mask-requires c κs = search needs
 
+slice-aggregate-collapse : tie.Need-slice-aggregate-collapse
+slice-aggregate-collapse c = search needs
+
 collapse-requires : tie.Need-collapse-requires
 collapse-requires c κs =
-    let S = c .before .before .before .before .before .before .before .before .before .before .before .before .before .before .before .before .pre in
-    (standing-lent S, (standing-ground S, ((S .laid .lawful .weighed, standing-roomy S, c .before .before .before .before .before .weighted-mask .ensures), (standing-marked S, S .laid))))
+    let S = c .before .before .before .before .before .before .before .before .before .before .before .before .before .before .before .before .before .before .pre in
+    (standing-lent S, (standing-ground S, ((S .laid .lawful .weighed, standing-roomy S, c .before .before .before .before .before .before .weighted-mask .ensures, c .before .before .before .before .before .before .before .logs .ensures), (standing-marked S, S .laid))))
 
 finish-requires : tie.Need-finish-requires
 finish-requires c κs = search needs
@@ -24,8 +30,8 @@ finish-requires c κs = search needs
 answer-requires : tie.Need-answer-requires
 answer-requires c κs =
     let turned = c .before .before .before .before .before .before .before .before .before .before .before .before .before .before .before .before .before .before .before .before .before .before .before .before .before .before .before in
-    let s = turned .before .before .before .before .before .before .before .before .before .before .before .before .before .before .before .before .before in
-    stop-most (s .pre) (s .args .words .now) (turned .collapse .result) _ (turned .collapse .ensures)
+    let s = turned .before .before .before .before .before .before .before .before .before .before .before .before .before .before .before .before .before .before .before in
+    stop-most (s .pre) (s .args .words .now) (turned .collapse .result) (turned .collapse .last .1 .1 .1 .1 .1 .1 .1 .1 .1 .1 .1 .0) (turned .collapse .ensures)
 
 same-length : tie.Need-same-length
 same-length c = search needs
@@ -45,15 +51,17 @@ same-length-5 c = search needs
 returns : tie.Need-returns
 returns c =
     let turned = c .before .before .before .before .before .before .before .before .before .before .before .before .before .before .before .before .before .before .before .before .before .before .before .before .before .before .before .before in
-    let s = turned .before .before .before .before .before .before .before .before .before .before .before .before .before .before .before .before .before in
-    turns-concluded (s .pre) (s .args .words .now) (turned .collapse .result) _ (turned .collapse .ensures) (c .answer .ensures) (c .before .before .before .before .before .before .before .before .before .before .before .finish .ensures)
-    (room-same (entry s) (turned .collapse .kept .1 .1 .1 .1 .1 .1 .1 .1 .1 .1))
+    let s = turned .before .before .before .before .before .before .before .before .before .before .before .before .before .before .before .before .before .before .before in
+    turns-concluded (s .pre) (s .args .words .now) (turned .collapse .result) (turned .collapse .last .1 .1 .1 .1 .1 .1 .1 .1 .1 .1 .1 .0) (turned .collapse .ensures) (c .answer .ensures) (c .before .before .before .before .before .before .before .before .before .before .before .finish .ensures)
+    (room-same (entry s) (turned .collapse .kept .1 .1 .1 .1 .1 .1 .1 .1 .1 .1 .1))
 
 pub turns-spec : {M : Type 1} → statement M
 turns-spec =
     tie.close
     (tie.spec
+    logs-requires
     weighted-mask-requires
+    slice-aggregate-collapse
     collapse-requires
     finish-requires
     answer-requires

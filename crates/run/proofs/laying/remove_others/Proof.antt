@@ -18,18 +18,18 @@ use Rattle.run.proofs.laying.remove_others.Statement.{statement}
 use Rattle.run.proofs.laying.remove_others.Tie as tie
 
 abbrev Inv-loop : tie.InvT-loop
-Inv-loop count weights cell pattern domains₀ counts₀ pending₀ floats₀ next₀ left₀ domains counts pending floats next left =
+Inv-loop count weights logs cell pattern domains₀ counts₀ pending₀ floats₀ next₀ left₀ domains counts pending floats next left =
     (left ≡ without (getD domains cell 0) pattern)
     × ((marks : List ℕ) → forbids count (lessened weights) (others count cell pattern) (stateOf count domains counts pending next (beside floats marks))
     ≡ forbids count (lessened weights) (others count cell pattern) (stateOf count domains₀ counts₀ pending₀ next₀ (beside floats₀ marks)))
     × Striking count (length domains₀) counts₀ pending₀ floats₀ domains counts pending floats next
 
 abbrev μ-loop : tie.MeasureT-loop
-μ-loop count weights cell pattern domains₀ counts₀ pending₀ floats₀ next₀ left₀ domains counts pending floats next left = getD domains cell 0
+μ-loop count weights logs cell pattern domains₀ counts₀ pending₀ floats₀ next₀ left₀ domains counts pending floats next left = getD domains cell 0
 
 -- the function's entry, from the loop's head
 abbrev start : tie.At-loop Inv-loop μ-loop → tie.Start Inv-loop μ-loop
-start l = l .before .before .before .before .before .before .before .before
+start l = l .before .before .before .before .before .before .before .before .before
 
 mul-without-pattern : tie.Need-mul-without-pattern Inv-loop μ-loop
 mul-without-pattern c = search needs
@@ -42,7 +42,7 @@ without-pattern-requires c κs = search needs
 
 loop-holds : tie.Need-loop-holds Inv-loop μ-loop
 loop-holds c =
-    let s = c .before .before .before .before .before .before .before in
+    let s = c .before .before .before .before .before .before .before .before in
     (c .without-pattern .ensures, λ marks. refl, record { lent = s .pre .0; domains = refl; counts = refl; pending = refl; floats = refl })
 
 next-pattern-requires : tie.Need-next-pattern-requires Inv-loop μ-loop
@@ -57,7 +57,7 @@ remove-requires c κs =
     let hc = s .pre .1 .1 .0 in (
       subst (λ (k : ℕ). Lent (s .args .count) k (head .loop .domains) (head .loop .counts) (head .loop .pending) (head .loop .next)) (sym (going .domains)) (going .lent),
       (
-        (s .pre .1 .0 .0, λ p h. omega (arith, s .pre .1 .0 .1 p h, going .floats, going .domains)),
+        (s .pre .1 .0 .0, λ p h. omega (arith, s .pre .1 .0 .1 p h, going .floats, going .domains), s .pre .1 .0 .2),
         (
           omega (arith, hc, going .domains),
           next-below (going .lent) hc _ is (found .before .loop-test .taken) (found .next-pattern .ensures),
@@ -75,7 +75,7 @@ slice-read-without-pattern-2 : tie.Need-slice-read-without-pattern-2 Inv-loop μ
 slice-read-without-pattern-2 c =
     let called = c .before .before .before .before .before .before .before .before .before in
     let head = called .before .before .before .before .before .before .before in
-    omega (arith, start head .pre .1 .1 .0, head .loop .inv .2 .domains, called .remove .kept .1 .1 .1 .1 .0)
+    omega (arith, start head .pre .1 .1 .0, head .loop .inv .2 .domains, called .remove .kept .1 .1 .1 .1 .1 .0)
 
 without-pattern-requires-2 : tie.Need-without-pattern-requires-2 Inv-loop μ-loop
 without-pattern-requires-2 c κs =
@@ -88,7 +88,9 @@ loop-less c =
     let found = called .before .before .before .before .before in
     let head = found .before .before in
     let (is, _, going) = head .loop .inv in
-    next-less (going .lent) (start head .pre .1 .1 .0) _ is (found .before .loop-test .taken) (found .next-pattern .ensures) _ _ (called .remove .ensures [])
+    let s = start head in
+    let l = called .remove .last .1 .1 .1 .1 .1 in
+    next-less (going .lent) (s .pre .1 .1 .0) (s .args .pattern) is (found .before .loop-test .taken) (found .next-pattern .ensures) (lessened (s .args .weights .now)) (beside (head .loop .floats) []) {s = stateOf (s .args .count) (l .0) (l .1 .0) (l .1 .1 .0) (called .remove .result) (beside (l .1 .1 .1 .0) [])} (called .remove .ensures [])
 
 loop-again : tie.Need-loop-again Inv-loop μ-loop
 loop-again c =
@@ -98,11 +100,12 @@ loop-again c =
     let s = start head in
     let (is, left, going) = head .loop .inv in
     let hc = s .pre .1 .1 .0 in
-    let k = called .remove .kept .1 .1 .1 .1 in (
+    let k = called .remove .kept .1 .1 .1 .1 .1 in
+    let l = called .remove .last .1 .1 .1 .1 .1 in (
       c .without-pattern2 .ensures,
-      λ marks. others-next (going .lent) hc _ is (found .before .loop-test .taken) (found .next-pattern .ensures) _ _ (called .remove .ensures marks) ∙ left marks,
+      λ marks. others-next (going .lent) hc (s .args .pattern) is (found .before .loop-test .taken) (found .next-pattern .ensures) (lessened (s .args .weights .now)) (beside (head .loop .floats) marks) {s = stateOf (s .args .count) (l .0) (l .1 .0) (l .1 .1 .0) (called .remove .result) (beside (l .1 .1 .1 .0) marks)} (called .remove .ensures marks) ∙ left marks,
       record {
-        lent = lent-after (going .lent) (next-safe (going .lent) hc _ is (found .before .loop-test .taken) (found .next-pattern .ensures) _ _ (called .remove .ensures [])) (k .1 .1 .0);
+        lent = lent-after (going .lent) (next-safe (going .lent) hc (s .args .pattern) is (found .before .loop-test .taken) (found .next-pattern .ensures) (lessened (s .args .weights .now)) (beside (head .loop .floats) []) {s = stateOf (s .args .count) (l .0) (l .1 .0) (l .1 .1 .0) (called .remove .result) (beside (l .1 .1 .1 .0) [])} (called .remove .ensures [])) (k .1 .1 .0);
         domains = k .0 ∙ going .domains;
         counts = k .1 .0 ∙ going .counts;
         pending = k .1 .1 .0 ∙ going .pending;
