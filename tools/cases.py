@@ -4,7 +4,7 @@
 Run from the repository's root. What the streams are, crates/recorded/src/main.rt and crates/replay/src/main.rt say. Every answer is as
 recorded, but for what is left of starting domains where propagation is not refused: the greatest consistent subset, computed here from its
 definition; for what a sheet of refusals.txt says, which is taken from its bytes here; for calls with a slice of a wrong length, which are 5;
-and for what only replay refuses."""
+for runs at the size that replay takes, in which nothing propagates, so that the noise and the words say all; and for what only replay refuses."""
 from struct import pack, unpack
 
 RUN, REFUSAL, PROPAGATE, LOOKUP, WRITE, READ = range(6)
@@ -218,6 +218,27 @@ def read_only(case):
     return replayed(sheet, [1], []), u16s([0]) + record(5, u16s([0, 0]) + pack("<Q", 1))
 
 
+def free(count, width, height):
+    """A case in which every pattern may stand beside every other, with one weight for all, so that nothing propagates."""
+    ids = [*range(count)]
+    return {"weights": "1 " * count, "offsets": line("", range(0, 4 * count * count + 1, count)), "ids": line("", ids * 4 * count),
+            "grid": f"{width} {height} 3", "patterns": str(count)}
+
+
+def chosen(case, left=0):
+    """Such a case with noise and words, and its answer by the rules: all entropies are the same, so the cells are chosen at by their noise, and the
+    word for each names its pattern. The last cells of that order have no word, as many as are left."""
+    (count,), (width, height, _) = numbers(case, "patterns"), numbers(case, "grid")
+    cells = width * height
+    noise = [(cell * 2654435769 + 7) % 2 ** 32 for cell in range(cells)]
+    words = [(cell * 40503 + 11) * (cell + 3) % 2 ** 32 for cell in range(cells - left)]
+    domains = [2 ** count - 1] * cells
+    for cell, word in zip(sorted(range(cells), key=lambda cell: noise[cell]), words):
+        domains[cell] = 1 << word % count
+    result = record(5, u16s([2 if left else 0, len(words)]) + pack(f"<{cells}Q", *domains))
+    return replayed(sheet_bytes(case), noise, words), u16s([0]) + result
+
+
 def replay():
     runs = [case for name in ("runs", "large", "rules_only", "sheets") for case in blocks(name)]
     cases = [(replayed(sheet_bytes(c), numbers(c, "noise"), numbers(c, "words")), done(c)) for c in runs]
@@ -227,6 +248,9 @@ def replay():
     sheet, noise, words = sheet_bytes(whole), numbers(whole, "noise"), numbers(whole, "words")
     cases += [(replayed(sheet, noise, words + [7] * 5000), done(whole)), (replayed(sheet, noise * 5000, words), u16s([5]))]
     cases += [(replayed(bytes(LONGEST + 1), noise, words), u16s([TOO_LARGE])), (replayed(sheet, noise, words), done(whole))]
+    # at the size that is taken, 4,096 cells times patterns, and just past it, which is told before the noise is looked at
+    cases += [chosen(free(4, 32, 32)), chosen(free(4, 32, 32), left=1), chosen(free(64, 8, 8)), (replayed(sheet_bytes(free(41, 10, 10)), [], []), u16s([TOO_LARGE]))]
+    # the stream ends in a case: in its last word, of which three bytes are there
     cut = replayed(sheet, noise, words)[:-1]
     open("crates/replay/stdin", "wb").write(b"".join(stream for stream, _ in cases) + cut)
     open("crates/replay/stdout", "wb").write(b"".join(answer for _, answer in cases))

@@ -1,28 +1,55 @@
 // Calls: a call is read, made and told. Lent memory starts full of sevens, since its old content is ignored.
 ghost use mathlib.Core.Path.{_≡_};
-ghost use Prim.Native.Nat.{_≤_, _<_};
+ghost use Prim.Native.Nat.{_≤_, _<_, min};
 ghost use lib.ListN.{length};
+use crate::choices::tell;
 use crate::input;
-use crate::input::Next;
 use crate::print;
 use propagation::Propagated;
 use run::Answer;
+use stream::inner::Next;
+use stream::inner::least;
 
 pub(crate) fn wide(x: u32) -> usize
-    ensures { λ r. ⌜ r < 4294967296 ⌝ }
+    ensures { λ r. ⌜ (r ≡ x) × (r < 4294967296) ⌝ }
 {
     x as usize
 }
 
 // A length that is asked for, at most what there is.
 pub(crate) fn within(asked: u32, most: usize) -> usize
-    ensures { λ r. ⌜ r ≤ most ⌝ }
+    ensures { λ r. ⌜ (r ≡ min asked most) × (r ≤ most) ⌝ }
 {
-    let n = wide(asked);
-    if n < most {
-        return n;
+    least(wide(asked), most)
+}
+
+// What a call asks for: count and grid, and how much memory it is lent.
+pub(crate) struct Asked {
+    pub(crate) count: usize,
+    pub(crate) width: usize,
+    pub(crate) height: usize,
+    pub(crate) mode: usize,
+    pub(crate) domains: usize,
+    pub(crate) counts: usize,
+    pub(crate) pending: usize,
+    pub(crate) floats: usize,
+    pub(crate) marks: usize,
+}
+
+fn asked_of(head: &[u32; 17]) -> Asked
+    ensures { λ r. ⌜ (r .domains ≤ 1025) × (r .counts ≤ 262145) × (r .pending ≤ 65537) × (r .floats ≤ 2049) × (r .marks ≤ 2081) ⌝ }
+{
+    Asked {
+        count: wide(head[0]),
+        width: wide(head[1]),
+        height: wide(head[2]),
+        mode: wide(head[3]),
+        domains: within(head[12], 1025),
+        counts: within(head[13], 262145),
+        pending: within(head[14], 65537),
+        floats: within(head[15], 2049),
+        marks: within(head[16], 2081),
     }
-    most
 }
 
 // Memory to lend. That it is so long is all that is said of it.
@@ -32,25 +59,25 @@ fn domains_to_lend() -> [u64; 1025]
     [7; 1025]
 }
 
-fn counts_to_lend() -> [u8; 262145]
+pub(crate) fn counts_to_lend() -> [u8; 262145]
     ensures { λ r. ⌜ 262145 ≡ length r ⌝ }
 {
     [7; 262145]
 }
 
-fn pending_to_lend() -> [u32; 65537]
+pub(crate) fn pending_to_lend() -> [u32; 65537]
     ensures { λ r. ⌜ 65537 ≡ length r ⌝ }
 {
     [7; 65537]
 }
 
-fn floats_to_lend() -> [f32; 2049]
+pub(crate) fn floats_to_lend() -> [f32; 2049]
     ensures { λ r. ⌜ 2049 ≡ length r ⌝ }
 {
     [7.0; 2049]
 }
 
-fn marks_to_lend() -> [u8; 2081]
+pub(crate) fn marks_to_lend() -> [u8; 2081]
     ensures { λ r. ⌜ 2081 ≡ length r ⌝ }
 {
     [7; 2081]
@@ -96,47 +123,8 @@ fn told_of(answer: Answer) -> Told {
 }
 
 // The run, on parts of the memory of the lengths that the call asks for.
-fn solve_in(
-    head: &[u32; 17],
-    forbids: &[u32],
-    weights: &[u32],
-    offsets: &[u32],
-    ids: &[u8],
-    noise: &[u32],
-    words: &[u32],
-    domains: &mut [u64],
-    counts: &mut [u8],
-    pending: &mut [u32],
-    floats: &mut [f32],
-    marks: &mut [u8],
-) -> Told {
-    let d = within(head[12], domains.len());
-    let c = within(head[13], counts.len());
-    let p = within(head[14], pending.len());
-    let f = within(head[15], floats.len());
-    let m = within(head[16], marks.len());
-    told_of(run::run_numbers(
-        forbids,
-        wide(head[0]),
-        wide(head[1]),
-        wide(head[2]),
-        wide(head[3]),
-        weights,
-        offsets,
-        ids,
-        noise,
-        words,
-        &mut domains[..d],
-        &mut counts[..c],
-        &mut pending[..p],
-        &mut floats[..f],
-        &mut marks[..m],
-    ))
-}
-
-// The run.
 fn solve(
-    head: &[u32; 17],
+    a: Asked,
     forbids: &[u32],
     weights: &[u32],
     offsets: &[u32],
@@ -144,53 +132,24 @@ fn solve(
     noise: &[u32],
     words: &[u32],
     domains: &mut [u64],
-) -> Told {
+) -> Answer
+    requires { ⌜ (a .domains ≤ 1025) × (a .counts ≤ 262145) × (a .pending ≤ 65537) × (a .floats ≤ 2049) × (a .marks ≤ 2081) × (1025 ≡ length (now domains)) ⌝ }
+{
     let mut counts = counts_to_lend();
     let mut pending = pending_to_lend();
     let mut floats = floats_to_lend();
     let mut marks = marks_to_lend();
-    solve_in(
-        head,
+    let d = a.domains;
+    let c = a.counts;
+    let p = a.pending;
+    let f = a.floats;
+    let m = a.marks;
+    run::run_numbers(
         forbids,
-        weights,
-        offsets,
-        ids,
-        noise,
-        words,
-        domains,
-        &mut counts,
-        &mut pending,
-        &mut floats,
-        &mut marks,
-    )
-}
-
-// The choices of that run, on such parts.
-fn choose_in(
-    head: &[u32; 17],
-    forbids: &[u32],
-    weights: &[u32],
-    offsets: &[u32],
-    ids: &[u8],
-    noise: &[u32],
-    words: &[u32],
-    domains: &mut [u64],
-    counts: &mut [u8],
-    pending: &mut [u32],
-    floats: &mut [f32],
-    marks: &mut [u8],
-) -> u32 {
-    let d = within(head[12], domains.len());
-    let c = within(head[13], counts.len());
-    let p = within(head[14], pending.len());
-    let f = within(head[15], floats.len());
-    let m = within(head[16], marks.len());
-    crate::choices::tell(
-        forbids,
-        wide(head[0]),
-        wide(head[1]),
-        wide(head[2]),
-        wide(head[3]),
+        a.count,
+        a.width,
+        a.height,
+        a.mode,
         weights,
         offsets,
         ids,
@@ -201,37 +160,6 @@ fn choose_in(
         &mut pending[..p],
         &mut floats[..f],
         &mut marks[..m],
-    )
-}
-
-// The choices of that run.
-fn choose(
-    head: &[u32; 17],
-    forbids: &[u32],
-    weights: &[u32],
-    offsets: &[u32],
-    ids: &[u8],
-    noise: &[u32],
-    words: &[u32],
-    domains: &mut [u64],
-) -> u32 {
-    let mut counts = counts_to_lend();
-    let mut pending = pending_to_lend();
-    let mut floats = floats_to_lend();
-    let mut marks = marks_to_lend();
-    choose_in(
-        head,
-        forbids,
-        weights,
-        offsets,
-        ids,
-        noise,
-        words,
-        domains,
-        &mut counts,
-        &mut pending,
-        &mut floats,
-        &mut marks,
     )
 }
 
@@ -249,11 +177,28 @@ fn same(a: &[u64; 1025], b: &[u64; 1025], many: usize) -> bool {
     true
 }
 
-// Says where the choices lead elsewhere than the run: a contradiction leaves all domains zero.
-fn compare(end: u64, code: u32, a: &[u64; 1025], b: &[u64; 1025], many: usize) {
-    if code == 12 {
-        if end != 3 {
-            print::text(b"the choices end in a contradiction\n");
+// Whether one of the first `many` domains is empty.
+fn emptied(a: &[u64; 1025], many: usize) -> bool {
+    let mut c = 0;
+    while c < 1025 {
+        if c < many {
+            if a[c] == 0 {
+                return true;
+            }
+        }
+        c += 1;
+    }
+    false
+}
+
+// Says where the choices lead elsewhere than the run, which leaves all domains zero after a contradiction and has used a word for each choice.
+fn compare(told: Told, made: usize, a: &[u64; 1025], b: &[u64; 1025], many: usize) {
+    if made != told.used {
+        print::text(b"the choices are not as many as the words\n");
+    }
+    if told.end == 3 {
+        if !emptied(b, many) {
+            print::text(b"the choices end in no contradiction\n");
         }
         return;
     }
@@ -273,11 +218,11 @@ fn run_told(
     noise: &[u32],
     words: &[u32],
 ) {
+    let a = asked_of(head);
     let mut domains = domains_to_lend();
-    let mut again = domains_to_lend();
     let many = wide(head[12]);
-    let told = solve(
-        head,
+    let told = told_of(solve(
+        a,
         forbids,
         weights,
         offsets,
@@ -285,24 +230,16 @@ fn run_told(
         noise,
         words,
         &mut domains,
-    );
+    ));
     if told.refused != 0 || !whole {
         print::refused(told.refused);
         return;
     }
     print::end(told.end, told.used);
     print::domains(&domains, many);
-    let code = choose(
-        head,
-        forbids,
-        weights,
-        offsets,
-        ids,
-        noise,
-        words,
-        &mut again,
-    );
-    compare(told.end, code, &domains, &again, many);
+    let mut again = domains_to_lend();
+    let made = tell(a, forbids, weights, offsets, ids, noise, words, &mut again);
+    compare(told, made, &domains, &again, many);
 }
 
 // ---- propagation, and a list that is looked up
@@ -328,38 +265,33 @@ fn put_domains(halves: &[u32], domains: &mut [u64; 1025]) {
 }
 
 // The number of propagation's refusal, 0 where it is accepted.
-fn propagate_in(
-    head: &[u32; 17],
-    offsets: &[u32],
-    ids: &[u8],
-    domains: &mut [u64],
-    counts: &mut [u8],
-    pending: &mut [u32],
-) -> u32 {
-    let d = within(head[12], domains.len());
-    let c = within(head[13], counts.len());
-    let p = within(head[14], pending.len());
-    match propagation::propagate(
-        wide(head[0]),
-        offsets,
-        ids,
-        wide(head[1]),
-        wide(head[2]),
-        wide(head[3]),
-        &mut domains[..d],
-        &mut counts[..c],
-        &mut pending[..p],
-    ) {
+fn refused_of(answer: Propagated) -> u32 {
+    match answer {
         Propagated::Refused(refusal) => refusals::inner::number(refusal),
         Propagated::Consistent => 0,
         Propagated::Contradiction => 0,
     }
 }
 
-fn propagate(head: &[u32; 17], offsets: &[u32], ids: &[u8], domains: &mut [u64]) -> u32 {
+fn propagate(a: Asked, offsets: &[u32], ids: &[u8], domains: &mut [u64]) -> Propagated
+    requires { ⌜ (a .domains ≤ 1025) × (a .counts ≤ 262145) × (a .pending ≤ 65537) × (1025 ≡ length (now domains)) ⌝ }
+{
     let mut counts = counts_to_lend();
     let mut pending = pending_to_lend();
-    propagate_in(head, offsets, ids, domains, &mut counts, &mut pending)
+    let d = a.domains;
+    let c = a.counts;
+    let p = a.pending;
+    propagation::propagate(
+        a.count,
+        offsets,
+        ids,
+        a.width,
+        a.height,
+        a.mode,
+        &mut domains[..d],
+        &mut counts[..c],
+        &mut pending[..p],
+    )
 }
 
 // The starting domains.
@@ -372,7 +304,7 @@ fn starting(halves: &[u32]) -> [u64; 1025] {
 // Propagation, told with what it leaves.
 fn propagate_told(head: &[u32; 17], offsets: &[u32], ids: &[u8], halves: &[u32]) {
     let mut domains = starting(halves);
-    print::refused(propagate(head, offsets, ids, &mut domains));
+    print::refused(refused_of(propagate(asked_of(head), offsets, ids, &mut domains)));
     print::domains(&domains, wide(head[12]));
 }
 

@@ -1,328 +1,114 @@
-// The choices of a run. A run tells its end alone, so its steps are gone through again, and each choice is laid as a forbid that keeps only the pattern:
-// that is what a choice is (docs/RULES.md, "Run"). Main property: every step starts from a state that some forbids lead to, as the library asks.
+// The choices of a run. A run tells its end alone, so its steps are gone through again (`trace_c`).
 ghost use mathlib.Core.Path.{_≡_};
-ghost use Rattle.adjacency.specs.Tables.{table};
-ghost use Rattle.grid.specs.Grid.{grid};
-ghost use Rattle.run.specs.Run.{given};
-ghost use Rattle.run.specs.Called.{memory};
-ghost use Rattle.run.specs.Stages.{Standing};
-use choice::inner::Observed;
-use run::Choice;
+ghost use Prim.Native.Nat.{_≤_};
+ghost use lib.ListN.{length};
+use crate::calls::Asked;
+use crate::calls::counts_to_lend;
+use crate::calls::floats_to_lend;
+use crate::calls::marks_to_lend;
+use crate::calls::pending_to_lend;
+use crate::calls::wide;
+use crate::print;
+use stream::inner::least;
 
-fn narrow(x: usize) -> u32 {
-    if x < 4294967295 {
-        return x as u32;
-    }
-    4294967295
+// Memory for what is told: a choice more than there can be, so that one too many shows.
+fn places_to_lend() -> [u32; 2050]
+    ensures { λ r. ⌜ 2050 ≡ length r ⌝ }
+{
+    [7; 2050]
 }
 
-// Lays a forbid: 0 to go on, 12 for a contradiction, 14 where it is not of the grid.
-fn lay(
-    cell: u32,
-    pattern: u32,
-    keep: u32,
-    count: usize,
-    width: usize,
-    height: usize,
-    mode: usize,
+fn entropies_to_lend() -> [f32; 1025]
+    ensures { λ r. ⌜ 1025 ≡ length r ⌝ }
+{
+    [7.0; 1025]
+}
+
+// The steps of the run, on parts of the memory of the lengths that the call asks for.
+fn trace(
+    a: Asked,
+    forbids: &[u32],
     weights: &[u32],
     offsets: &[u32],
     ids: &[u8],
     noise: &[u32],
     words: &[u32],
+    places: &mut [u32],
+    entropies: &mut [f32],
     domains: &mut [u64],
-    counts: &mut [u8],
-    pending: &mut [u32],
-    floats: &mut [f32],
-    marks: &mut [u8],
-) -> u32
-    requires { ⌜ Standing (given (table count (now offsets) (now ids)) (now weights) (grid width height mode) (now noise)) (memory (now domains) (now counts) (now pending) (now floats) (now marks)) ⌝ }
-    ensures { λ r. ⌜ (r ≡ 0
-        → Standing (given (table count (now (offsets .entry)) (now (ids .entry))) (now (weights .entry)) (grid width height mode) (now (noise .entry)))
-        (memory (now (domains .exit)) (now (counts .exit)) (now (pending .exit)) (now (floats .exit)) (now (marks .exit)))) ⌝ }
+) -> usize
+    requires { ⌜ (a .domains ≤ 1025) × (a .counts ≤ 262145) × (a .pending ≤ 65537) × (a .floats ≤ 2049) × (a .marks ≤ 2081) × (1025 ≡ length (now domains)) ⌝ }
 {
-    if domains.len() <= cell as usize {
-        return 14;
-    }
-    if count <= pattern as usize {
-        return 14;
-    }
-    run::inner::lay_one(
-        cell,
-        pattern,
-        keep,
-        count,
-        width,
-        height,
-        mode,
+    let mut counts = counts_to_lend();
+    let mut pending = pending_to_lend();
+    let mut floats = floats_to_lend();
+    let mut marks = marks_to_lend();
+    let d = a.domains;
+    let c = a.counts;
+    let p = a.pending;
+    let f = a.floats;
+    let m = a.marks;
+    trace_c::murghidossu_trace(
+        forbids,
+        a.count,
+        a.width,
+        a.height,
+        a.mode,
         weights,
         offsets,
         ids,
         noise,
         words,
-        domains,
-        counts,
-        pending,
-        floats,
-        marks,
+        places,
+        entropies,
+        &mut domains[..d],
+        &mut counts[..c],
+        &mut pending[..p],
+        &mut floats[..f],
+        &mut marks[..m],
     )
 }
 
-// The pattern that a word chooses at a cell, or `count` where there is none.
-fn pattern_at(count: usize, weights: &[u32], domains: &[u64], cell: usize, word: u32) -> usize {
-    if cell < domains.len() {
-        match run::choice_of(count, weights, domains[cell], word) {
-            Choice::Pattern(pattern) => {
-                return pattern;
-            }
-            Choice::Nothing => {
-                return count;
-            }
-            Choice::Refused(_) => {
-                return count;
-            }
-        }
-    }
-    count
-}
-
-// Makes and tells a choice: as `lay`, and 13 where nothing is left to observe.
-fn choose(
-    word: u32,
-    count: usize,
-    width: usize,
-    height: usize,
-    mode: usize,
-    weights: &[u32],
-    offsets: &[u32],
-    ids: &[u8],
-    noise: &[u32],
-    words: &[u32],
-    domains: &mut [u64],
-    counts: &mut [u8],
-    pending: &mut [u32],
-    floats: &mut [f32],
-    marks: &mut [u8],
-) -> u32
-    requires { ⌜ Standing (given (table count (now offsets) (now ids)) (now weights) (grid width height mode) (now noise)) (memory (now domains) (now counts) (now pending) (now floats) (now marks)) ⌝ }
-    ensures { λ r. ⌜ (r ≡ 0
-        → Standing (given (table count (now (offsets .entry)) (now (ids .entry))) (now (weights .entry)) (grid width height mode) (now (noise .entry)))
-        (memory (now (domains .exit)) (now (counts .exit)) (now (pending .exit)) (now (floats .exit)) (now (marks .exit)))) ⌝ }
-{
-    match run::inner::sight(
-        count,
-        width,
-        height,
-        mode,
-        weights,
-        offsets,
-        ids,
-        noise,
-        domains,
-        counts,
-        pending,
-        floats,
-        marks,
-    ) {
-        Observed::Nothing => 13,
-        Observed::Cell(cell, entropy) => {
-            let pattern = pattern_at(count, weights, domains, cell, word);
-            crate::print::choice(cell, entropy, pattern);
-            lay(
-                narrow(cell),
-                narrow(pattern),
-                1,
-                count,
-                width,
-                height,
-                mode,
-                weights,
-                offsets,
-                ids,
-                noise,
-                words,
-                domains,
-                counts,
-                pending,
-                floats,
-                marks,
-            )
-        }
-    }
-}
-
-// Step k: the forbids in order, then a choice for each word.
-fn step(
-    k: usize,
-    forbids: &[u32],
-    count: usize,
-    width: usize,
-    height: usize,
-    mode: usize,
-    weights: &[u32],
-    offsets: &[u32],
-    ids: &[u8],
-    noise: &[u32],
-    words: &[u32],
-    domains: &mut [u64],
-    counts: &mut [u8],
-    pending: &mut [u32],
-    floats: &mut [f32],
-    marks: &mut [u8],
-) -> u32
-    requires { ⌜ Standing (given (table count (now offsets) (now ids)) (now weights) (grid width height mode) (now noise)) (memory (now domains) (now counts) (now pending) (now floats) (now marks)) ⌝ }
-    ensures { λ r. ⌜ (r ≡ 0
-        → Standing (given (table count (now (offsets .entry)) (now (ids .entry))) (now (weights .entry)) (grid width height mode) (now (noise .entry)))
-        (memory (now (domains .exit)) (now (counts .exit)) (now (pending .exit)) (now (floats .exit)) (now (marks .exit)))) ⌝ }
-{
-    let first = forbids.len() / 3;
-    if k < first {
-        return lay(
-            forbids[3 * k],
-            forbids[3 * k + 1],
-            forbids[3 * k + 2],
-            count,
-            width,
-            height,
-            mode,
-            weights,
-            offsets,
-            ids,
-            noise,
-            words,
-            domains,
-            counts,
-            pending,
-            floats,
-            marks,
-        );
-    }
-    if words.len() <= k - first {
-        return 13;
-    }
-    choose(
-        words[k - first],
-        count,
-        width,
-        height,
-        mode,
-        weights,
-        offsets,
-        ids,
-        noise,
-        words,
-        domains,
-        counts,
-        pending,
-        floats,
-        marks,
-    )
-}
-
-// Goes through the steps until one of them ends the run. There are at most as many choices as cells, so 1,024 and one to end suffice.
-fn steps(
-    begun: u32,
-    forbids: &[u32],
-    count: usize,
-    width: usize,
-    height: usize,
-    mode: usize,
-    weights: &[u32],
-    offsets: &[u32],
-    ids: &[u8],
-    noise: &[u32],
-    words: &[u32],
-    domains: &mut [u64],
-    counts: &mut [u8],
-    pending: &mut [u32],
-    floats: &mut [f32],
-    marks: &mut [u8],
-) -> u32
-    requires { ⌜ (begun ≡ 0
-        → Standing (given (table count (now offsets) (now ids)) (now weights) (grid width height mode) (now noise))
-        (memory (now domains) (now counts) (now pending) (now floats) (now marks))) ⌝ }
-{
-    let mut code = begun;
+// The first `many` choices.
+fn print_all(places: &[u32; 2050], entropies: &[f32; 1025], many: usize) {
     let mut k = 0;
-    while k < forbids.len() / 3 + 1025 {
-        if code != 0 {
-            return code;
+    while k < 1025 {
+        if k < many {
+            print::choice(wide(places[2 * k]), entropies[k], wide(places[2 * k + 1]));
         }
-        code = step(
-            k,
-            forbids,
-            count,
-            width,
-            height,
-            mode,
-            weights,
-            offsets,
-            ids,
-            noise,
-            words,
-            domains,
-            counts,
-            pending,
-            floats,
-            marks,
-        );
         k += 1;
     }
-    code
 }
 
-// Goes through a run from its beginning and tells each choice.
+// Tells each choice, and answers how many there were.
 pub(crate) fn tell(
+    a: Asked,
     forbids: &[u32],
-    count: usize,
-    width: usize,
-    height: usize,
-    mode: usize,
     weights: &[u32],
     offsets: &[u32],
     ids: &[u8],
     noise: &[u32],
     words: &[u32],
     domains: &mut [u64],
-    counts: &mut [u8],
-    pending: &mut [u32],
-    floats: &mut [f32],
-    marks: &mut [u8],
-) -> u32 {
-    let begun = run::inner::begin(
-        0,
-        0,
-        count,
-        width,
-        height,
-        mode,
-        weights,
-        offsets,
-        ids,
-        noise,
-        words,
-        domains,
-        counts,
-        pending,
-        floats,
-        marks,
-    );
-    steps(
-        begun,
+) -> usize
+    requires { ⌜ (a .domains ≤ 1025) × (a .counts ≤ 262145) × (a .pending ≤ 65537) × (a .floats ≤ 2049) × (a .marks ≤ 2081) × (1025 ≡ length (now domains)) ⌝ }
+{
+    let mut places = places_to_lend();
+    let mut entropies = entropies_to_lend();
+    let most = least(words.len(), 1025);
+    let numbers = 2 * most;
+    let made = trace(
+        a,
         forbids,
-        count,
-        width,
-        height,
-        mode,
         weights,
         offsets,
         ids,
         noise,
-        words,
+        &words[..most],
+        &mut places[..numbers],
+        &mut entropies[..most],
         domains,
-        counts,
-        pending,
-        floats,
-        marks,
-    )
+    );
+    print_all(&places, &entropies, made);
+    made
 }

@@ -8,6 +8,7 @@ use crate::print;
 use sheet::Measures;
 use sheet::SizesAnswer;
 use sheet::Written;
+use stream::inner::least;
 
 // Memory to lend. That it is so long is all that is said of it.
 fn bytes_to_lend() -> [u8; 131072]
@@ -20,16 +21,6 @@ fn numbers_to_lend() -> [u32; 16384]
     ensures { λ r. ⌜ 16384 ≡ length r ⌝ }
 {
     [7; 16384]
-}
-
-// The lesser number.
-fn least(a: usize, b: usize) -> usize
-    ensures { λ r. ⌜ r ≤ b ⌝ }
-{
-    if a < b {
-        return a;
-    }
-    b
 }
 
 // One for a seven among the bytes from there up to there, nothing for another.

@@ -1,67 +1,94 @@
-// Cases: each is read whole, then answered.
+// Cases: each is read whole, then answered. How much of one is kept, and what it is answered, is `stream`'s to say.
+ghost use mathlib.Core.Path.{_≡_};
+ghost use Prim.Native.Nat.{_<_};
+ghost use lib.ListN.{length};
+ghost use Rattle.stream.specs.Cases.{Rooms};
 use crate::input;
-use crate::input::Next;
-use crate::input::least;
 use libc::STDERR_FILENO;
+use libc::STDOUT_FILENO;
+use stream::inner::Next;
+
+// How many bytes of a part were sent, or that the stream ends in it.
+enum Part {
+    Bytes(usize),
+    CutOff,
+}
 
 fn cut_off() -> bool {
     io::write_all(STDERR_FILENO, b"replay: the stream is cut off in a case\n");
     false
 }
 
-// As many of the sheet's bytes as there is room for; the rest is read past. Answers whether the input had them all.
-fn sheet_bytes(many: usize, sheet: &mut [u8]) -> bool {
-    let kept = least(many, sheet.len());
-    if !input::bytes(&mut sheet[..kept]) {
-        return false;
+// The end of the stream; says so where it is none.
+fn ended() -> bool {
+    if !input::ended() {
+        io::write_all(STDERR_FILENO, b"replay: the stream cannot be read\n");
     }
-    input::skip(many - kept)
+    false
 }
 
-// Answers a case of which all is read; what was read past is left out.
-fn answer(size: usize, sheet: &[u8], noises: usize, noise: &[u32], many: usize, words: &[u32]) {
-    let s = least(size, sheet.len());
-    let n = least(noises, noise.len());
-    let w = least(many, words.len());
-    crate::runs::answer(&sheet[..s], &noise[..n], &words[..w]);
+fn wide(x: u32) -> usize
+    ensures { λ r. ⌜ (r ≡ x) × (r < 4294967296) ⌝ }
+{
+    x as usize
+}
+
+// A part of words, four bytes each.
+fn words_in(memory: &mut [u8]) -> Part {
+    let Next::Number(many) = input::number() else {
+        return Part::CutOff;
+    };
+    let size = 4 * wide(many);
+    if !input::fill(size, memory) {
+        return Part::CutOff;
+    }
+    Part::Bytes(size)
+}
+
+// Answers a case of which all is read.
+fn answer(size: usize, sheet: &[u8], noises: usize, noise: &[u8], many: usize, words: &[u8])
+    requires { ⌜ Rooms (now sheet) (now noise) (now words) ⌝ }
+{
+    let mut out = stream::inner::answer_room();
+    let n = stream::inner::answer(size, sheet, noises, noise, many, words, &mut out);
+    io::write_all(STDOUT_FILENO, &out[..n]);
 }
 
 // The noise, the words and the answer.
-fn rest(size: usize, sheet: &[u8]) -> bool {
-    let mut noise = [0u32; 1025];
-    let mut words = [0u32; 1024];
-    let Next::Number(noises) = input::number() else {
+fn rest(size: usize, sheet: &[u8], noise: &mut [u8], words: &mut [u8]) -> bool
+    requires { ⌜ Rooms (now sheet) (now noise) (now words) ⌝ }
+{
+    let Part::Bytes(noises) = words_in(noise) else {
         return cut_off();
     };
-    if !input::numbers(noises, &mut noise) {
-        return cut_off();
-    }
-    let Next::Number(many) = input::number() else {
+    let Part::Bytes(many) = words_in(words) else {
         return cut_off();
     };
-    if !input::numbers(many, &mut words) {
-        return cut_off();
-    }
-    answer(size, sheet, noises, &noise, many, &words);
+    answer(size, sheet, noises, noise, many, words);
     true
 }
 
-// Reads a case, its sheet into the memory that is lent, and answers it.
-fn next_in(sheet: &mut [u8]) -> bool {
+// Reads a case into the memory that is lent, and answers it.
+fn next_in(sheet: &mut [u8], noise: &mut [u8], words: &mut [u8]) -> bool
+    requires { ⌜ Rooms (now sheet) (now noise) (now words) ⌝ }
+{
     match input::number() {
-        Next::End => false,
+        Next::End => ended(),
         Next::Short => cut_off(),
-        Next::Number(size) => {
-            if !sheet_bytes(size, sheet) {
+        Next::Number(n) => {
+            let size = wide(n);
+            if !input::fill(size, sheet) {
                 return cut_off();
             }
-            rest(size, sheet)
+            rest(size, sheet, noise, words)
         }
     }
 }
 
-// Answers the next case, and whether there may be another. A byte more than the longest sheet has says that one is too long.
+// Answers the next case, and whether there may be another.
 pub(crate) fn next() -> bool {
-    let mut sheet = [0u8; 41377];
-    next_in(&mut sheet)
+    let mut sheet = stream::inner::sheet_room();
+    let mut noise = stream::inner::noise_room();
+    let mut words = stream::inner::words_room();
+    next_in(&mut sheet, &mut noise, &mut words)
 }

@@ -22,7 +22,7 @@ use Rattle.sheet.specs.Called.{sizesAsked, readOutcome, readCalled, writ
 abbrev pub smallest : Sheet
 smallest = sheet (1 ∷ []) ((0 ∷ []) ∷ (0 ∷ []) ∷ (0 ∷ []) ∷ (0 ∷ []) ∷ []) (grid 1 1 0) []
 
--- 06000000 0100 0100 0100, 0A000000 0200 01000100 01000100, 08000000 0300 0100 0100 0000, 02000000 0400
+-- its four records, one to a line
 abbrev pub smallestBytes : List ℕ
 smallestBytes =
     0x06 ∷ 0x00 ∷ 0x00 ∷ 0x00 ∷ 0x01 ∷ 0x00 ∷ 0x01 ∷ 0x00 ∷ 0x01 ∷ 0x00

@@ -40,7 +40,7 @@ slice-relend-prefix-write : tie.Need-slice-relend-prefix-write
 slice-relend-prefix-write c = search needs
 
 slice-aggregate-write : tie.Need-slice-aggregate-write
-slice-aggregate-write c = sym (length-take-le _ _ (c .before .before .before .before .before .before .before .before .before .within .ensures))
+slice-aggregate-write c = sym (length-take-le _ _ (c .before .before .before .before .before .before .before .before .before .within .ensures .1))
 
 write-requires : tie.Need-write-requires
 write-requires c κs = search needs

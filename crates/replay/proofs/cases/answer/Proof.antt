@@ -1,4 +1,4 @@
--- `replay::cases::answer` is safe: each part that is lent is there.
+-- `replay::cases::answer` is safe: the part that is written is there.
 -- Assumes nothing.
 use mathlib.Core.Path.{sym}
 use lib.Seq.{length-take-le}
@@ -6,26 +6,23 @@ use borrow.Author.Needs.{needs}
 use Rattle.replay.proofs.cases.answer.Statement.{statement}
 use Rattle.replay.proofs.cases.answer.Tie as tie
 
-least-requires : tie.Need-least-requires
-least-requires c κs = search needs
-
-least-requires-2 : tie.Need-least-requires-2
-least-requires-2 c κs = search needs
-
-least-requires-3 : tie.Need-least-requires-3
-least-requires-3 c κs = search needs
+answer-room-requires : tie.Need-answer-room-requires
+answer-room-requires c κs = search needs
 
 slice-aggregate-answer : tie.Need-slice-aggregate-answer
-slice-aggregate-answer c = sym (length-take-le _ _ (c .before .before .before .least .ensures .1))
-
-slice-aggregate-answer-2 : tie.Need-slice-aggregate-answer-2
-slice-aggregate-answer-2 c = sym (length-take-le _ _ (c .before .before .before .least2 .ensures .1))
-
-slice-aggregate-answer-3 : tie.Need-slice-aggregate-answer-3
-slice-aggregate-answer-3 c = sym (length-take-le _ _ (c .before .before .before .least3 .ensures .1))
+slice-aggregate-answer c = search needs
 
 answer-requires : tie.Need-answer-requires
 answer-requires c κs = search needs
+
+array-share-prefix-out : tie.Need-array-share-prefix-out
+array-share-prefix-out c = search needs
+
+slice-aggregate-write-all : tie.Need-slice-aggregate-write-all
+slice-aggregate-write-all c = sym (length-take-le _ _ (search needs))
+
+write-all-requires : tie.Need-write-all-requires
+write-all-requires c κs = search needs
 
 returns : tie.Need-returns
 returns c = search needs
@@ -34,11 +31,10 @@ pub answer-spec : {M : Type 1} → statement M
 answer-spec =
     tie.close
     (tie.spec
-    least-requires
-    least-requires-2
-    least-requires-3
+    answer-room-requires
     slice-aggregate-answer
-    slice-aggregate-answer-2
-    slice-aggregate-answer-3
     answer-requires
+    array-share-prefix-out
+    slice-aggregate-write-all
+    write-all-requires
     returns)

@@ -13,7 +13,7 @@ slice-relend-prefix-read-full : tie.Need-slice-relend-prefix-read-full
 slice-relend-prefix-read-full c = search needs
 
 slice-aggregate-read-full : tie.Need-slice-aggregate-read-full
-slice-aggregate-read-full c = sym (length-take-le _ _ (c .before .least .ensures .1))
+slice-aggregate-read-full c = sym (length-take-le _ _ (c .before .least .ensures .2))
 
 read-full-requires : tie.Need-read-full-requires
 read-full-requires c κs = search needs

@@ -56,7 +56,7 @@ lay-answer-requires c κs =
     let a = c .before .before .before .before .before .before .before .before .before .before .before .before .before .before .before .before .before .before .before .before .before .before .before .before .before .before .before .before .before .before .before .before .before .args in
     let run = c .before .before .before .before .before .before .before .before .before .before .before .before .run-numbers in
     let same : length (run .last .1 .1 .1 .1 .1 .1 .1 .1 .1 .1 .0) ≡ length (a .domains .now) = omega (arith, run .kept .1 .1 .1 .1 .1 .1 .1 .1 .1 .1 .0) in
-    result-writable (given (table (a .count) (a .offsets .now) (a .ids .now)) (a .weights .now) (grid (a .width) (a .height) (a .mode)) (a .noise .now)) (a .forbids .now) (a .words .now) (memory (a .domains .now) (a .counts .now) (a .pending .now) (a .floats .now) (a .marks .now)) (a .out .now) (room-there (grid (a .width) (a .height) (a .mode)) (length (a .out .now)) (c .before .before .before .before .before .before .before .before .before .before .before .before .before .before .before .before .before .before .if2 .left)) (answerTold (run .result)) (run .ensures) same
+    result-writable (given (table (a .count) (a .offsets .now) (a .ids .now)) (a .weights .now) (grid (a .width) (a .height) (a .mode)) (a .noise .now)) (a .forbids .now) (a .words .now) (memory (a .domains .now) (a .counts .now) (a .pending .now) (a .floats .now) (a .marks .now)) (a .out .now) (room-there (grid (a .width) (a .height) (a .mode)) (length (a .out .now)) (c .before .before .before .before .before .before .before .before .before .before .before .before .before .before .before .before .before .before .if2 .left)) (answerTold (run .result)) {m′ = memory (run .last .1 .1 .1 .1 .1 .1 .1 .1 .1 .1 .0) (run .last .1 .1 .1 .1 .1 .1 .1 .1 .1 .1 .1 .0) (run .last .1 .1 .1 .1 .1 .1 .1 .1 .1 .1 .1 .1 .0) (run .last .1 .1 .1 .1 .1 .1 .1 .1 .1 .1 .1 .1 .1 .0) (run .last .1 .1 .1 .1 .1 .1 .1 .1 .1 .1 .1 .1 .1 .1 .0)} (run .ensures) same
 
 same-length : tie.Need-same-length
 same-length c = search needs
@@ -79,7 +79,8 @@ same-length-6 c = search needs
 returns-3 : tie.Need-returns-3
 returns-3 c =
     let a = c .before .before .before .before .before .before .before .before .before .before .before .before .before .before .before .before .before .before .before .before .before .before .before .before .before .before .before .before .before .before .before .before .before .before .before .before .args in
-    result-done (given (table (a .count) (a .offsets .now) (a .ids .now)) (a .weights .now) (grid (a .width) (a .height) (a .mode)) (a .noise .now)) (a .forbids .now) (a .words .now) (memory (a .domains .now) (a .counts .now) (a .pending .now) (a .floats .now) (a .marks .now)) (a .out .now) (room-there (grid (a .width) (a .height) (a .mode)) (length (a .out .now)) (c .before .before .before .before .before .before .before .before .before .before .before .before .before .before .before .before .before .before .before .before .before .if2 .left)) (c .before .before .before .before .before .before .before .before .before .before .before .before .before .before .before .run-numbers .ensures) (c .before .before .lay-answer .ensures)
+    let run = c .before .before .before .before .before .before .before .before .before .before .before .before .before .before .before .run-numbers in
+    result-done (given (table (a .count) (a .offsets .now) (a .ids .now)) (a .weights .now) (grid (a .width) (a .height) (a .mode)) (a .noise .now)) (a .forbids .now) (a .words .now) (memory (a .domains .now) (a .counts .now) (a .pending .now) (a .floats .now) (a .marks .now)) (a .out .now) (room-there (grid (a .width) (a .height) (a .mode)) (length (a .out .now)) (c .before .before .before .before .before .before .before .before .before .before .before .before .before .before .before .before .before .before .before .before .before .if2 .left)) {told = answerTold (run .result)} {m′ = memory (run .last .1 .1 .1 .1 .1 .1 .1 .1 .1 .1 .0) (run .last .1 .1 .1 .1 .1 .1 .1 .1 .1 .1 .1 .0) (run .last .1 .1 .1 .1 .1 .1 .1 .1 .1 .1 .1 .1 .0) (run .last .1 .1 .1 .1 .1 .1 .1 .1 .1 .1 .1 .1 .1 .0) (run .last .1 .1 .1 .1 .1 .1 .1 .1 .1 .1 .1 .1 .1 .1 .0)} {out′ = c .before .before .lay-answer .last .1 .1 .0} (run .ensures) (c .before .before .lay-answer .ensures)
 
 pub run-result-spec : {M : Type 1} → statement M
 run-result-spec =

@@ -1,0 +1,4 @@
+pub mod NextLaws
+pub mod WordLaws
+pub mod CaseLaws
+pub mod KeptLaws

@@ -1,0 +1,3 @@
+// A case of a stream: how much of it is kept, and the bytes that it is answered. What `replay` does besides is to read and to write.
+// Follows docs/RULES.md, "Programs". Main property: what is answered of what is kept is the answer of the whole case (`kept-answered`).
+pub mod inner;
