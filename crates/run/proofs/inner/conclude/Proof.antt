@@ -4,7 +4,7 @@ use borrow.Author.Needs.{needs}
 use Rattle.adjacency.specs.Tables.{table}
 use Rattle.grid.specs.Grid.{grid}
 use Rattle.run.specs.Run.{Given, given}
-use Rattle.run.specs.Called.{Memory, memory}
+use Rattle.run.specs.Called.{Memory, memory, answerTold, outcome}
 use Rattle.run.proofs.StandingLaws.{conclude-standing, conclude-contradicted, conclude-refused}
 use Rattle.run.proofs.inner.conclude.Statement.{statement}
 use Rattle.run.proofs.inner.conclude.Tie as tie
@@ -20,47 +20,53 @@ turns-requires : tie.Need-turns-requires
 turns-requires c κs = c .before .before .before .before .before .before .before .before .before .before .before .before .before .before .before .before .pre .standing (c .before .before .before .before .before .if1 .taken)
 
 same-length : tie.Need-same-length
-same-length c = search needs
+same-length c = c .before .before .before .before .before .before .before .before .before .before .turns .kept .1 .1 .1 .1 .1 .1 .1 .1 .1 .0
 
 same-length-2 : tie.Need-same-length-2
-same-length-2 c = search needs
+same-length-2 c = c .before .before .before .before .before .before .before .before .before .before .turns .kept .1 .1 .1 .1 .1 .1 .1 .1 .1 .1 .0
 
 same-length-3 : tie.Need-same-length-3
-same-length-3 c = search needs
+same-length-3 c = c .before .before .before .before .before .before .before .before .before .before .turns .kept .1 .1 .1 .1 .1 .1 .1 .1 .1 .1 .1 .0
 
 same-length-4 : tie.Need-same-length-4
-same-length-4 c = search needs
+same-length-4 c = c .before .before .before .before .before .before .before .before .before .before .turns .kept .1 .1 .1 .1 .1 .1 .1 .1 .1 .1 .1 .1 .0
 
 same-length-5 : tie.Need-same-length-5
-same-length-5 c = search needs
+same-length-5 c = c .before .before .before .before .before .before .before .before .before .before .turns .kept .1 .1 .1 .1 .1 .1 .1 .1 .1 .1 .1 .1 .1 .0
 
 returns : tie.Need-returns
 returns c =
     let s = c .before .before .before .before .before .before .before .before .before .before .before .before .before .before .before .before .before .before .before .before .before .before .before .before .before .before .before in
-    conclude-standing (input s) (s .args .words .now) (entry s) (c .before .before .before .before .before .before .before .before .before .before .before .before .before .before .before .before .if1 .taken) (c .before .before .before .before .before .before .before .before .before .before .turns .ensures)
+    let called = c .before .before .before .before .before .before .before .before .before .before .turns in
+    let l = called .last .1 .1 .1 .1 .1 .1 .1 .1 .1 in
+    conclude-standing (input s) (s .args .words .now) (entry s) (c .before .before .before .before .before .before .before .before .before .before .before .before .before .before .before .before .if1 .taken)
+    {o = outcome (answerTold (called .result)) (memory (l .0) (l .1 .0) (l .1 .1 .0) (l .1 .1 .1 .0) (l .1 .1 .1 .1 .0))} (called .ensures)
 
 finish-requires : tie.Need-finish-requires
 finish-requires c κs = search needs
 
 same-length-6 : tie.Need-same-length-6
-same-length-6 c = search needs
+same-length-6 c = c .before .before .before .before .before .before .before .before .before .before .finish .kept .1 .0
 
 same-length-7 : tie.Need-same-length-7
-same-length-7 c = search needs
+same-length-7 c = c .before .before .before .before .before .before .before .before .before .before .finish .kept .1 .1 .0
 
 same-length-8 : tie.Need-same-length-8
-same-length-8 c = search needs
+same-length-8 c = c .before .before .before .before .before .before .before .before .before .before .finish .kept .1 .1 .1 .0
 
 same-length-9 : tie.Need-same-length-9
-same-length-9 c = search needs
+same-length-9 c = c .before .before .before .before .before .before .before .before .before .before .finish .kept .1 .1 .1 .1 .0
 
 same-length-10 : tie.Need-same-length-10
-same-length-10 c = search needs
+same-length-10 c = c .before .before .before .before .before .before .before .before .before .before .finish .kept .1 .1 .1 .1 .1 .0
 
 returns-2 : tie.Need-returns-2
 returns-2 c =
     let s = c .before .before .before .before .before .before .before .before .before .before .before .before .before .before .before .before .before .before .before .before .before .before .before .before .before .before .before .before in
-    conclude-contradicted (input s) (s .args .words .now) (entry s) (c .before .before .before .before .before .before .before .before .before .before .before .before .before .before .before .before .if2 .taken) (c .before .before .before .before .before .before .before .before .before .before .finish .ensures)
+    let called = c .before .before .before .before .before .before .before .before .before .before .finish in
+    let l = called .last .1 in
+    conclude-contradicted (input s) (s .args .words .now) (entry s) (c .before .before .before .before .before .before .before .before .before .before .before .before .before .before .before .before .if2 .taken)
+    {m′ = memory (l .0) (l .1 .0) (l .1 .1 .0) (l .1 .1 .1 .0) (l .1 .1 .1 .1 .0)} (called .ensures)
 
 refusal-requires : tie.Need-refusal-requires
 refusal-requires c κs = search needs

@@ -2,7 +2,6 @@
 -- Assumes nothing.
 use mathlib.Core.List.{List}
 use Prim.Native.Nat.{ℕ}
-use borrow.Author.Needs.{needs}
 use Rattle.consistency.specs.Worklist.{State}
 use Rattle.propagation.specs.Beside.{Beside, beside, lessened}
 use Rattle.propagation.specs.Lent.{stateOf}
@@ -15,19 +14,19 @@ abbrev entry : tie.Start → List ℕ → State Beside
 entry s marks = stateOf (s .args .count) (s .args .domains .now) (s .args .counts .now) (s .args .pending .now) (s .args .pile) (beside (s .args .floats .now) marks)
 
 forbid-pattern-requires : tie.Need-forbid-pattern-requires
-forbid-pattern-requires c κs = search needs
+forbid-pattern-requires c κs = c .before .before .before .before .before .before .before .before .before .before .before .pre
 
 same-length : tie.Need-same-length
-same-length c = search needs
+same-length c = c .before .before .before .before .before .before .before .before .forbid-pattern .kept .1 .1 .1 .1 .1 .0
 
 same-length-2 : tie.Need-same-length-2
-same-length-2 c = search needs
+same-length-2 c = c .before .before .before .before .before .before .before .before .forbid-pattern .kept .1 .1 .1 .1 .1 .1 .0
 
 same-length-3 : tie.Need-same-length-3
-same-length-3 c = search needs
+same-length-3 c = c .before .before .before .before .before .before .before .before .forbid-pattern .kept .1 .1 .1 .1 .1 .1 .1 .0
 
 same-length-4 : tie.Need-same-length-4
-same-length-4 c = search needs
+same-length-4 c = c .before .before .before .before .before .before .before .before .forbid-pattern .kept .1 .1 .1 .1 .1 .1 .1 .1 .0
 
 returns : tie.Need-returns
 returns c =
@@ -40,19 +39,19 @@ returns c =
     (test .if1 .taken) (called .forbid-pattern .ensures marks)
 
 remove-others-requires : tie.Need-remove-others-requires
-remove-others-requires c κs = search needs
+remove-others-requires c κs = c .before .before .before .before .before .before .before .before .before .before .before .pre
 
 same-length-5 : tie.Need-same-length-5
-same-length-5 c = search needs
+same-length-5 c = c .before .before .before .before .before .before .before .before .remove-others .kept .1 .1 .1 .1 .1 .0
 
 same-length-6 : tie.Need-same-length-6
-same-length-6 c = search needs
+same-length-6 c = c .before .before .before .before .before .before .before .before .remove-others .kept .1 .1 .1 .1 .1 .1 .0
 
 same-length-7 : tie.Need-same-length-7
-same-length-7 c = search needs
+same-length-7 c = c .before .before .before .before .before .before .before .before .remove-others .kept .1 .1 .1 .1 .1 .1 .1 .0
 
 same-length-8 : tie.Need-same-length-8
-same-length-8 c = search needs
+same-length-8 c = c .before .before .before .before .before .before .before .before .remove-others .kept .1 .1 .1 .1 .1 .1 .1 .1 .0
 
 returns-2 : tie.Need-returns-2
 returns-2 c =
