@@ -1,3 +1,4 @@
 pub mod TallyLaws
 pub mod ChartLaws
 pub mod PictureLaws
+pub mod SignLaws

@@ -4,7 +4,8 @@ use mathlib.Core.Bool.{Bool, true, false}
 use mathlib.Core.List.{List, [], _∷_, _++_}
 use mathlib.Core.Path.{_≡_, refl, sym, ap, _∙_}
 use Prim.Native.Nat.{ℕ, _+_, _-_, _*_, _/_, _%_, _≤_, _<_}
-use native.Mathlib.Nat.{le-of-lt, min-eq-left, min-eq-right}
+use native.Mathlib.Decide.{decLt}
+use native.Mathlib.Nat.{le-of-lt, min-eq-left, min-eq-right, div-mul-le-self}
 use native.Mathlib.Omega.{arith}
 use lib.ListN.{take, drop}
 use borrow.Author.Tests.{lt-ltb, le-ltb, eq-eqb, ne-eqb}
@@ -130,10 +131,24 @@ pub beneath-many : (height k : ℕ) → 64 ≤ height → 64 + k ≡ beneath hei
 unfolding beneath
 beneath-many height k h = ap (λ (n : ℕ). n + k) (sym (min-eq-right h))
 
-pub breadth-least : (width : ℕ) → width < 28 → 30 ≡ breadth width
+pub breadth-least : (width : ℕ) → width < 36 → 38 ≡ breadth width
 unfolding breadth
-breadth-least width h = simp (lt-ltb width 28 h)
+breadth-least width h = simp (lt-ltb width 36 h)
 
-pub breadth-more : (width n : ℕ) → 28 ≤ width → n ≡ beneath width 2 → n ≡ breadth width
+pub breadth-more : (width n : ℕ) → 36 ≤ width → n ≡ beneath width 2 → n ≡ breadth width
 unfolding breadth
-breadth-more width n h e = simp (le-ltb width 28 h) e
+breadth-more width n h e = simp (le-ltb width 36 h) e
+
+breadth-enough : (width : ℕ) → 38 ≤ breadth width
+breadth-enough width =
+    elim (decLt width 36) [
+      | yes h ↦ omega (arith, breadth-least width h)
+      | no h ↦ elim (decLt width 64) [
+        | yes l ↦ omega (arith, h, breadth-more width (width + 2) (omega (arith, h)) (beneath-few width 2 l))
+        | no l ↦ omega (arith, breadth-more width 66 (omega (arith, h)) (beneath-many width 2 (omega (arith, l))))
+      ]
+    ]
+
+-- the view begins at -1: in it lies the legend's column of every pattern, nine wide
+pub legend-inside : (width p : ℕ) → p < 64 → p / 16 * 9 + 9 ≤ breadth width - 1
+legend-inside width p h = omega (arith, h, div-mul-le-self p 16, breadth-enough width)

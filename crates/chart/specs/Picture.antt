@@ -76,9 +76,9 @@ pictureRow width named domains y = cond (ltb y (rowCount width domains)) (tilesT
 unfoldable pub beneath : ℕ → ℕ → ℕ
 beneath height k = min height 64 + k
 
--- how wide a picture is: as wide as its grid with a margin, and no narrower than the legend
+-- how wide a picture is: as wide as its grid with a margin, and no narrower than the four columns of the legend
 unfoldable pub breadth : ℕ → ℕ
-breadth width = cond (ltb width 28) 30 (beneath width 2)
+breadth width = cond (ltb width 36) 38 (beneath width 2)
 
 -- how a side is drawn: a seam is dashed
 unfoldable pub strokeText : Bool → List ℕ

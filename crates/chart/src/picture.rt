@@ -374,11 +374,11 @@ fn beneath(height: usize, k: usize) -> usize
     if height < 64 { height + k } else { 64 + k }
 }
 
-// How wide the picture is.
+// How wide the picture is: the legend's four columns of nine and a margin at least.
 fn breadth(width: usize) -> usize
     ensures { λ r. ⌜ r ≡ meaning.breadth width ⌝ }
 {
-    if width < 28 { 30 } else { beneath(width, 2) }
+    if width < 36 { 38 } else { beneath(width, 2) }
 }
 
 // How a side is drawn.
