@@ -27,6 +27,11 @@ fn ended() -> bool {
     false
 }
 
+fn unwritten() -> bool {
+    io::write_all(STDERR_FILENO, b"replay: the answer could not be written\n");
+    false
+}
+
 fn wide(x: u32) -> usize
     ensures { λ r. ⌜ (r ≡ x) × (r < 4294967296) ⌝ }
 {
@@ -45,13 +50,20 @@ fn words_in(memory: &mut [u8]) -> Part {
     Part::Bytes(size)
 }
 
-// Answers a case of which all is read.
-fn answer(size: usize, sheet: &[u8], noises: usize, noise: &[u8], many: usize, words: &[u8])
+// Answers a case of which all is read, and whether the answer is written to its end.
+fn answer(
+    size: usize,
+    sheet: &[u8],
+    noises: usize,
+    noise: &[u8],
+    many: usize,
+    words: &[u8],
+) -> bool
     requires { ⌜ Rooms (now sheet) (now noise) (now words) ⌝ }
 {
     let mut out = stream::inner::answer_room();
     let n = stream::inner::answer(size, sheet, noises, noise, many, words, &mut out);
-    io::write_all(STDOUT_FILENO, &out[..n]);
+    io::write_all(STDOUT_FILENO, &out[..n])
 }
 
 // The noise, the words and the answer.
@@ -64,7 +76,9 @@ fn rest(size: usize, sheet: &[u8], noise: &mut [u8], words: &mut [u8]) -> bool
     let Part::Bytes(many) = words_in(words) else {
         return cut_off();
     };
-    answer(size, sheet, noises, noise, many, words);
+    if !answer(size, sheet, noises, noise, many, words) {
+        return unwritten();
+    }
     true
 }
 
