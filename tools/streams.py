@@ -1,13 +1,14 @@
 #!/usr/bin/env python3
 """Cuts the recorded stream of replay at every byte of a case, and holds what the program writes and says to docs/RULES.md, "Programs".
 
-Run from the repository's root, after `rt check replay`. The gate runs a program once and compares standard output alone; where a stream ends, and
-that it cannot be read, is told on standard error."""
+Run from the repository's root, after `rt check replay`. The gate runs a program once and compares standard output alone; where a stream ends,
+that it cannot be read, and that an answer cannot be written, is told on standard error. /dev/full, which takes no byte, is Linux's."""
 from struct import calcsize, unpack_from
-from subprocess import run
+from subprocess import PIPE, run
 
 PROGRAM = "target/bin/replay"
 CUT_OFF, UNREADABLE = b"replay: the stream is cut off in a case\n", b"replay: the stream cannot be read\n"
+UNWRITTEN = b"replay: the answer could not be written\n"
 
 
 def end_of(stream, at):
@@ -26,6 +27,13 @@ def cut(stream, start, end, answers):
         assert told.stderr == (CUT_OFF if length > start else b""), length
 
 
+def unwritten(end):
+    """An answer that cannot be written is the last: it is said once, and nothing is read past the first case, which ends there."""
+    with open("crates/replay/stdin", "rb", buffering=0) as stream, open("/dev/full", "wb") as full:
+        told = run([PROGRAM], stdin=stream, stdout=full, stderr=PIPE)
+        assert told.stderr == UNWRITTEN and stream.tell() == end
+
+
 def main():
     stream = open("crates/replay/stdin", "rb").read()
     start = end_of(stream, 0)
@@ -35,7 +43,8 @@ def main():
     cut(stream, start, end, whole.stdout)
     told = run(f"{PROGRAM} < .", shell=True, capture_output=True)
     assert told.stdout == b"" and told.stderr == UNREADABLE
-    print(f"replay: {end - start} cuts of a case, and a stream that cannot be read")
+    unwritten(start)
+    print(f"replay: {end - start} cuts of a case, a stream that cannot be read, and an answer that cannot be written")
 
 
 main()

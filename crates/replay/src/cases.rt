@@ -1,4 +1,4 @@
-// Cases: each is read whole, then answered. How much of one is kept, and what it is answered, is `stream`'s to say.
+// Cases: each is read whole, then answered. How much of one is kept, what it is answered, and the words for why no more is, are `stream`'s to say.
 ghost use mathlib.Core.Path.{_≡_};
 ghost use Prim.Native.Nat.{_<_};
 ghost use lib.ListN.{length};
@@ -7,6 +7,10 @@ use crate::input;
 use libc::STDERR_FILENO;
 use libc::STDOUT_FILENO;
 use stream::inner::Next;
+use stream::inner::sentences::CUT_OFF;
+use stream::inner::sentences::UNREADABLE;
+use stream::inner::sentences::UNWRITTEN;
+use stream::inner::sentences::put_reason;
 
 // How many bytes of a part were sent, or that the stream ends in it.
 enum Part {
@@ -14,15 +18,18 @@ enum Part {
     CutOff,
 }
 
-fn cut_off() -> bool {
-    io::write_all(STDERR_FILENO, b"replay: the stream is cut off in a case\n");
+// Says on standard error why no more is answered, and answers that there is no more.
+fn say(reason: usize) -> bool {
+    let mut page = io::buffer();
+    let n = put_reason(reason, &mut page);
+    io::write_all(STDERR_FILENO, &page[..n]);
     false
 }
 
 // The end of the stream; says so where it is none.
 fn ended() -> bool {
     if !input::ended() {
-        io::write_all(STDERR_FILENO, b"replay: the stream cannot be read\n");
+        return say(UNREADABLE);
     }
     false
 }
@@ -45,13 +52,13 @@ fn words_in(memory: &mut [u8]) -> Part {
     Part::Bytes(size)
 }
 
-// Answers a case of which all is read.
-fn answer(size: usize, sheet: &[u8], noises: usize, noise: &[u8], many: usize, words: &[u8])
+// Answers a case of which all is read, and whether the answer is written to its end.
+fn answer(size: usize, sheet: &[u8], noises: usize, noise: &[u8], many: usize, words: &[u8]) -> bool
     requires { ⌜ Rooms (now sheet) (now noise) (now words) ⌝ }
 {
     let mut out = stream::inner::answer_room();
     let n = stream::inner::answer(size, sheet, noises, noise, many, words, &mut out);
-    io::write_all(STDOUT_FILENO, &out[..n]);
+    io::write_all(STDOUT_FILENO, &out[..n])
 }
 
 // The noise, the words and the answer.
@@ -59,12 +66,14 @@ fn rest(size: usize, sheet: &[u8], noise: &mut [u8], words: &mut [u8]) -> bool
     requires { ⌜ Rooms (now sheet) (now noise) (now words) ⌝ }
 {
     let Part::Bytes(noises) = words_in(noise) else {
-        return cut_off();
+        return say(CUT_OFF);
     };
     let Part::Bytes(many) = words_in(words) else {
-        return cut_off();
+        return say(CUT_OFF);
     };
-    answer(size, sheet, noises, noise, many, words);
+    if !answer(size, sheet, noises, noise, many, words) {
+        return say(UNWRITTEN);
+    }
     true
 }
 
@@ -74,11 +83,11 @@ fn next_in(sheet: &mut [u8], noise: &mut [u8], words: &mut [u8]) -> bool
 {
     match input::number() {
         Next::End => ended(),
-        Next::Short => cut_off(),
+        Next::Short => say(CUT_OFF),
         Next::Number(n) => {
             let size = wide(n);
             if !input::fill(size, sheet) {
-                return cut_off();
+                return say(CUT_OFF);
             }
             rest(size, sheet, noise, words)
         }

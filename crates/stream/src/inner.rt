@@ -13,6 +13,7 @@ use records::inner::lay_u16;
 use records::inner::u32_at;
 
 mod memory;
+pub mod sentences;
 
 // What is told of a sheet that is too long or too large.
 const TOO_LARGE: usize = 65535;
