@@ -3,7 +3,7 @@
 use mathlib.Core.Bool.{Bool, true, false, cond, _&&_}
 use mathlib.Core.List.{List, [], _∷_}
 use mathlib.Core.Option.{Option, none, some}
-use mathlib.Core.Path.{_≡_, refl, sym, ap, _∙_}
+use mathlib.Core.Path.{_≡_, refl, sym, ap, _∙_, subst}
 use Prim.Native.Nat.{ℕ, suc, _+_, _-_, _*_, _^_, _≤_, _<_}
 use native.Mathlib.Numerals.{add-one}
 use native.Mathlib.Omega.{arith}
@@ -16,7 +16,7 @@ use Rattle.text.specs.Pages.{ascii}
 use Rattle.command.specs.declared.arguments.Number.{Number}
 use Rattle.command.specs.declared.arguments.Number.the-variants.{Is, Not}
 use Rattle.command.specs.declared.arguments.Plan.{Plan}
-use Rattle.command.specs.Arguments.{numberTold, plan, withFault, withWait, withNumber, withSeed, withSvg, withFile, withWord, stepped, faultOf, sameText, dashed, kindOf, digitMore, onward, readFrom, numberIn}
+use Rattle.command.specs.Arguments.{numberTold, plan, withFault, withWait, withNumber, withSeed, withSvg, withFile, withWord, stepped, faultOf, sameText, dashed, kindOf, digitMore, onward, readFrom, numberIn, begun, Taken, Asked}
 
 -- ---- texts
 
@@ -160,3 +160,23 @@ module _ (p : Plan) (index : ℕ) where
       pub step-word : (p .waits ≡ 1 → ⊥) → (p .waits ≡ 2 → ⊥) → withWord p index text ≡ stepped p index text
       unfolding stepped
       step-word n z = simp (eq-eqb (p .fault) 0 none, ne-eqb (p .waits) 1 n, ne-eqb (p .waits) 2 z)
+
+-- ---- all of them
+
+pub asked-none : (from : ℕ) (p : Plan) → p ≡ begun → Asked from (from - from) p
+unfolding Asked
+asked-none from p e =
+    let nothing : 0 ≡ from - from = omega arith in
+    subst (λ (n : ℕ). Asked from n p) nothing e
+
+pub asked-more : (from i : ℕ) (q p : Plan) → from ≤ i → Asked from (i - from) q → Taken q i p → Asked from (i + 1 - from) p
+unfolding Asked
+asked-more from i q p h before taken =
+    let one : (i - from) + 1 ≡ i + 1 - from = omega arith in
+    let place : i ≡ from + (i - from) = omega arith in
+    subst (λ (n : ℕ). Asked from n p) (sym (add-one (i - from)) ∙ one) (q, before, subst (λ (k : ℕ). Taken q k p) place taken)
+
+pub asked-all : (from end i : ℕ) (p : Plan) → i - from ≤ end - from → end ≤ i → Asked from (i - from) p → Asked from (end - from) p
+asked-all from end i p h h′ all =
+    let same : i - from ≡ end - from = omega arith in
+    subst (λ (n : ℕ). Asked from n p) same all

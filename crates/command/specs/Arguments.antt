@@ -3,7 +3,8 @@
 use mathlib.Core.Bool.{Bool, true, false, cond, not, _&&_}
 use mathlib.Core.List.{List, [], _∷_}
 use mathlib.Core.Option.{Option, none, some}
-use Prim.Native.Nat.{ℕ, _+_, _-_, _*_, _^_}
+use mathlib.Core.Path.{_≡_}
+use Prim.Native.Nat.{ℕ, zero, suc, _+_, _-_, _*_, _^_}
 use lib.Dec.{eqb, leb, ltb}
 use lib.ListN.{length, getD, set}
 use Rattle.loops.specs.Tests.{allTo}
@@ -99,3 +100,14 @@ faultOf p =
     cond (eqb (p .fault) 0)
     (cond (eqb (p .waits) 0) (cond (p .seeded) (cond (ltb (p .count) 3) 0 6) (cond (eqb (p .count) 0) 0 (cond (ltb (p .count) 3) 5 0))) (p .waits))
     (p .fault)
+
+-- ---- all of them
+
+-- whether a plan comes of another by the argument of this number, whatever its text is
+unfoldable pub Taken : Plan → ℕ → Plan → Type 0
+Taken p index q = (text : List ℕ) × (q ≡ stepped p index text)
+
+-- whether a plan comes of so many arguments, the first of which has this number: each of them once, in their order
+unfoldable pub Asked : ℕ → ℕ → Plan → Type 0
+Asked from zero p = p ≡ begun
+Asked from (suc n) p = (q : Plan) × Asked from n q × Taken q (from + n) p

@@ -1,6 +1,8 @@
 // A command, carried out. Sentences go to the file that is lent for them: standard error in `ocean`, standard output where they are held to a file.
 ghost use mathlib.Core.Path.{_≡_};
-ghost use Rattle.command.specs.Arguments.{faultOf};
+ghost use Prim.Native.Nat.{_-_};
+ghost use Rattle.command.specs.Arguments as meaning;
+ghost use Rattle.command.specs.Arguments.{faultOf, Asked};
 use bounded::inner::Ground;
 use bounded::inner::Taken;
 use command::arguments::Number;
@@ -16,6 +18,28 @@ mod files;
 mod memory;
 mod parts;
 mod show;
+
+// One argument more, by its number; its text is what the system says.
+fn take(plan: Plan, index: usize) -> Plan
+    ensures { λ r. ⌜ meaning.Taken plan index r ⌝ }
+{
+    let mut text = io::buffer();
+    let n = os::arg(index, &mut text);
+    command::arguments::step(plan, index, &text[..n])
+}
+
+// What the arguments from one up to another ask for.
+pub fn arguments(from: usize, end: usize) -> Plan
+    ensures { λ r. ⌜ Asked from (end - from) r ⌝ }
+{
+    let mut plan = command::arguments::begin();
+    let mut i = from;
+    while i < end {
+        plan = take(plan, i);
+        i += 1;
+    }
+    plan
+}
 
 // Noise and words from a seed, one of each for each cell.
 fn laid_from_seed(names: Names, told: i32, seed: u32, sheet: &[u8], ground: Ground) {
