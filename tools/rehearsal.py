@@ -100,7 +100,12 @@ free.sheet eight.noise
 free.sheet eight.noise eight.words more.result fifth
 --seed 3 free.sheet eight.noise eight.words
 --seed 3 none.sheet
---seed 3 ''
+--seed 3 '' refused.result
+free.sheet '' eight.words refused.result
+free.sheet eight.noise '' refused.result
+--svg refused.svg --seed 3 free.sheet ''
+--svg '' --seed 3 free.sheet refused.result
+--svg ''
 --seed 3 folder
 --seed 3 free.sheet/free.sheet
 free.sheet none.noise eight.words
@@ -136,7 +141,6 @@ free.sheet long.noise eight.words refused.result
 --svg refused.svg --seed 3 free.sheet folder
 --svg refused.svg --seed 3 free.sheet /dev/full
 --svg none/free.svg --seed 3 free.sheet
---svg '' --seed 3 free.sheet
 --svg /dev/full --seed 3 free.sheet
 text refused.result
 text refused.svg

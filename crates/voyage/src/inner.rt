@@ -9,7 +9,6 @@ use command::arguments::Number;
 use command::arguments::Plan;
 use command::files::Names;
 use command::files::Words;
-use command::sentences::CLASH;
 use command::sentences::CUT;
 use command::sentences::TOO_LARGE;
 use command::sentences::TOO_LONG;
@@ -130,8 +129,13 @@ fn laid_from_file(names: Names, told: i32, seed: Number) {
     laid(names, told, seed, parts::bytes_of(&bytes, n));
 }
 
-// The practice ocean, or the sheet that is named.
+// The practice ocean, or the sheet that is named; nothing is read or written where something is wrong with the names.
 fn laid_as_asked(names: Names, told: i32, seed: Number) {
+    let fault = files::fault_of(names);
+    if fault != 0 {
+        show::fault(told, fault);
+        return;
+    }
     if names.sheet == 0 {
         let sheet = practice::sheet();
         laid(names, told, seed, &sheet);
@@ -148,8 +152,6 @@ pub fn carry_out(plan: Plan, told: i32) -> usize
     let names = command::files::names_of(plan);
     if wrong != 0 {
         show::fault(told, wrong);
-    } else if files::clash(names) {
-        show::fault(told, CLASH);
     } else {
         laid_as_asked(names, told, command::files::seed_of(plan));
     }
