@@ -3,7 +3,7 @@
 //
 //     W ..           the words of a command of `ocean`
 //     bytes FILE     the bytes of a file, in hexadecimal
-//     text FILE      a file as it stands
+//     text FILE      a file as it stands, up to 65,536 bytes
 ghost use Prim.Native.Nat.{_≤_, _<_};
 use libc::STDOUT_FILENO;
 
