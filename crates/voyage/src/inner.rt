@@ -45,8 +45,7 @@ fn laid_from_seed(names: Names, told: i32, seed: u32, sheet: &[u8], ground: Grou
     let cells = ground.cells;
     let mut noise = memory::noise_to_lend();
     let mut words = memory::words_to_lend();
-    let state = parts::fill(seed, cells, &mut noise);
-    parts::fill(state, cells, &mut words);
+    parts::fill(seed, cells, &mut noise, &mut words);
     show::run(
         names,
         told,
