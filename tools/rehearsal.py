@@ -43,6 +43,7 @@ FILES = {
     "free.sheet": FREE,
     "held.sheet": free([1, 1, 1, 1], 5, 3, 3, [(7, 2, 1), (0, 0, 0), (14, 3, 0)]),
     "checker.sheet": sheet([1, 1], [[1]] * 4 + [[0]] * 4, 3, 1, 1, [(0, 0, 1)]),
+    "wide.sheet": free([1] * 8, 64, 8, 2),
     "4096.sheet": alone(64, 8, 8),
     "4100.sheet": alone(41, 10, 10),
     "size.sheet": free([1, 2, 3], 65, 1, 0),
@@ -77,7 +78,12 @@ COMMANDS = """
 --seed 3 free.sheet seeded.result
 bytes seeded.result
 --seed 4 free.sheet --seed 3
---seed 4294967295 held.sheet
+--svg practice.svg
+text practice.svg
+--svg held.svg --seed 4294967295 held.sheet
+text held.svg
+--svg wide.svg --seed 3 wide.sheet
+text wide.svg
 free.sheet eight.noise three.words paused.result
 bytes paused.result
 free.sheet eight.noise empty.words
@@ -94,13 +100,20 @@ bytes contradiction.result
 --seed 4294967296
 --seed ''
 --svg
+--svg --seed 3
 --help
+-h
 free.sheet
 free.sheet eight.noise
 free.sheet eight.noise eight.words more.result fifth
 --seed 3 free.sheet eight.noise eight.words
 --seed 3 none.sheet
---seed 3 ''
+--seed 3 '' refused.result
+free.sheet '' eight.words refused.result
+free.sheet eight.noise '' refused.result
+--svg refused.svg --seed 3 free.sheet ''
+--svg '' --seed 3 free.sheet refused.result
+--svg ''
 --seed 3 folder
 --seed 3 free.sheet/free.sheet
 free.sheet none.noise eight.words
@@ -136,7 +149,6 @@ free.sheet long.noise eight.words refused.result
 --svg refused.svg --seed 3 free.sheet folder
 --svg refused.svg --seed 3 free.sheet /dev/full
 --svg none/free.svg --seed 3 free.sheet
---svg '' --seed 3 free.sheet
 --svg /dev/full --seed 3 free.sheet
 text refused.result
 text refused.svg

@@ -3,7 +3,7 @@
 use mathlib.Core.Bool.{Bool, true, false, cond, _&&_}
 use mathlib.Core.List.{List, [], _∷_}
 use mathlib.Core.Option.{Option, none, some}
-use mathlib.Core.Path.{_≡_, refl, sym, ap, _∙_}
+use mathlib.Core.Path.{_≡_, refl, sym, ap, _∙_, subst}
 use Prim.Native.Nat.{ℕ, suc, _+_, _-_, _*_, _^_, _≤_, _<_}
 use native.Mathlib.Numerals.{add-one}
 use native.Mathlib.Omega.{arith}
@@ -16,7 +16,7 @@ use Rattle.text.specs.Pages.{ascii}
 use Rattle.command.specs.declared.arguments.Number.{Number}
 use Rattle.command.specs.declared.arguments.Number.the-variants.{Is, Not}
 use Rattle.command.specs.declared.arguments.Plan.{Plan}
-use Rattle.command.specs.Arguments.{numberTold, plan, withFault, withWait, withNumber, withSeed, withSvg, withFile, withWord, stepped, faultOf, sameText, dashed, kindOf, digitMore, onward, readFrom, numberIn}
+use Rattle.command.specs.Arguments.{numberTold, plan, withFault, withWait, withNumber, withSeed, withSvg, withFile, withWord, stepped, faultOf, sameText, dashed, kindOf, digitMore, onward, readFrom, numberIn, begun, Taken, Asked}
 
 -- ---- texts
 
@@ -32,13 +32,19 @@ pub dashed-short : (t : List ℕ) → length t < 2 → false ≡ dashed t
 unfolding dashed
 dashed-short t h = simp (lt-leb 2 (length t) h)
 
-pub dashed-other : (t : List ℕ) → 2 ≤ length t → (getD t 0 0 ≡ 45 → ⊥) → false ≡ dashed t
+pub dashed-first : (t : List ℕ) → 2 ≤ length t → eqb (getD t 0 0) 45 ≡ dashed t
 unfolding dashed
-dashed-other t h n = simp (le-leb 2 (length t) h, ne-eqb (getD t 0 0) 45 n)
+dashed-first t h = simp (le-leb 2 (length t) h)
 
-pub dashed-first : (t : List ℕ) → 2 ≤ length t → getD t 0 0 ≡ 45 → eqb (getD t 1 0) 45 ≡ dashed t
-unfolding dashed
-dashed-first t h e = simp (le-leb 2 (length t) h, eq-eqb (getD t 0 0) 45 e)
+-- the ways through `with_svg`
+module _ (p : Plan) (index : ℕ) (text : List ℕ) {b : Bool} (e : b ≡ dashed text) where
+  pub svg-option : b ≡ true → withFault p 2 ≡ withSvg p index text
+  unfolding withSvg
+  svg-option t = simp (sym e ∙ t)
+
+  pub svg-file : b ≡ false → plan (p .seed) (p .seeded) index (p .files) (p .count) 0 (p .fault) ≡ withSvg p index text
+  unfolding withSvg
+  svg-file t = simp (sym e ∙ t)
 
 module _ (t : List ℕ) (a b c : Bool) where
   pub kind-seed : a ≡ sameText t (ascii "--seed") → a ≡ true → 1 ≡ kindOf t
@@ -153,10 +159,30 @@ module _ (p : Plan) (index : ℕ) where
       unfolding stepped
       step-seed z = simp (eq-eqb (p .fault) 0 none, eq-eqb (p .waits) 1 z)
 
-      pub step-svg : (p .waits ≡ 1 → ⊥) → p .waits ≡ 2 → withSvg p index ≡ stepped p index text
+      pub step-svg : (p .waits ≡ 1 → ⊥) → p .waits ≡ 2 → withSvg p index text ≡ stepped p index text
       unfolding stepped
       step-svg n z = simp (eq-eqb (p .fault) 0 none, ne-eqb (p .waits) 1 n, eq-eqb (p .waits) 2 z)
 
       pub step-word : (p .waits ≡ 1 → ⊥) → (p .waits ≡ 2 → ⊥) → withWord p index text ≡ stepped p index text
       unfolding stepped
       step-word n z = simp (eq-eqb (p .fault) 0 none, ne-eqb (p .waits) 1 n, ne-eqb (p .waits) 2 z)
+
+-- ---- all of them
+
+pub asked-none : (from : ℕ) (p : Plan) → p ≡ begun → Asked from (from - from) p
+unfolding Asked
+asked-none from p e =
+    let nothing : 0 ≡ from - from = omega arith in
+    subst (λ (n : ℕ). Asked from n p) nothing e
+
+pub asked-more : (from i : ℕ) (q p : Plan) → from ≤ i → Asked from (i - from) q → Taken q i p → Asked from (i + 1 - from) p
+unfolding Asked
+asked-more from i q p h before taken =
+    let one : (i - from) + 1 ≡ i + 1 - from = omega arith in
+    let place : i ≡ from + (i - from) = omega arith in
+    subst (λ (n : ℕ). Asked from n p) (sym (add-one (i - from)) ∙ one) (q, before, subst (λ (k : ℕ). Taken q k p) place taken)
+
+pub asked-all : (from end i : ℕ) (p : Plan) → i - from ≤ end - from → end ≤ i → Asked from (i - from) p → Asked from (end - from) p
+asked-all from end i p h h′ all =
+    let same : i - from ≡ end - from = omega arith in
+    subst (λ (n : ℕ). Asked from n p) same all

@@ -3,7 +3,8 @@
 use mathlib.Core.Bool.{Bool, true, false, cond, not, _&&_}
 use mathlib.Core.List.{List, [], _∷_}
 use mathlib.Core.Option.{Option, none, some}
-use Prim.Native.Nat.{ℕ, _+_, _-_, _*_, _^_}
+use mathlib.Core.Path.{_≡_}
+use Prim.Native.Nat.{ℕ, zero, suc, _+_, _-_, _*_, _^_}
 use lib.Dec.{eqb, leb, ltb}
 use lib.ListN.{length, getD, set}
 use Rattle.loops.specs.Tests.{allTo}
@@ -16,9 +17,9 @@ use Rattle.command.specs.declared.arguments.Plan.{Plan}
 unfoldable pub sameText : List ℕ → List ℕ → Bool
 sameText a b = eqb (length a) (length b) && allTo (length a) (λ i. eqb (getD a i 0) (getD b i 0))
 
--- whether a text starts with two dashes
+-- whether a text starts with a dash and goes on, as an option does
 unfoldable pub dashed : List ℕ → Bool
-dashed t = leb 2 (length t) && eqb (getD t 0 0) 45 && eqb (getD t 1 0) 45
+dashed t = leb 2 (length t) && eqb (getD t 0 0) 45
 
 -- what an argument is: 0 a file's name, 1 --seed, 2 --svg, 3 another option
 unfoldable pub kindOf : List ℕ → ℕ
@@ -75,8 +76,9 @@ withNumber p (some seed) = plan seed true (p .svg) (p .files) (p .count) 0 (p .f
 unfoldable pub withSeed : Plan → List ℕ → Plan
 withSeed p text = withNumber p (numberIn text)
 
-unfoldable pub withSvg : Plan → ℕ → Plan
-withSvg p index = plan (p .seed) (p .seeded) index (p .files) (p .count) 0 (p .fault)
+-- the picture's file, which is no option
+unfoldable pub withSvg : Plan → ℕ → List ℕ → Plan
+withSvg p index text = cond (dashed text) (withFault p 2) (plan (p .seed) (p .seeded) index (p .files) (p .count) 0 (p .fault))
 
 unfoldable pub withFile : Plan → ℕ → Plan
 withFile p index =
@@ -90,7 +92,7 @@ withWord p index text = cond (eqb (kindOf text) 0) (withFile p index) (cond (eqb
 unfoldable pub stepped : Plan → ℕ → List ℕ → Plan
 stepped p index text =
     cond (eqb (p .fault) 0)
-    (cond (eqb (p .waits) 1) (withSeed p text) (cond (eqb (p .waits) 2) (withSvg p index) (withWord p index text)))
+    (cond (eqb (p .waits) 1) (withSeed p text) (cond (eqb (p .waits) 2) (withSvg p index text) (withWord p index text)))
     p
 
 -- after the last argument: the first fault, or 0
@@ -99,3 +101,14 @@ faultOf p =
     cond (eqb (p .fault) 0)
     (cond (eqb (p .waits) 0) (cond (p .seeded) (cond (ltb (p .count) 3) 0 6) (cond (eqb (p .count) 0) 0 (cond (ltb (p .count) 3) 5 0))) (p .waits))
     (p .fault)
+
+-- ---- all of them
+
+-- whether a plan comes of another by the argument of this number, whatever its text is
+unfoldable pub Taken : Plan → ℕ → Plan → Type 0
+Taken p index q = (text : List ℕ) × (q ≡ stepped p index text)
+
+-- whether a plan comes of so many arguments, the first of which has this number: each of them once, in their order
+unfoldable pub Asked : ℕ → ℕ → Plan → Type 0
+Asked from zero p = p ≡ begun
+Asked from (suc n) p = (q : Plan) × Asked from n q × Taken q (from + n) p

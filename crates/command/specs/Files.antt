@@ -1,4 +1,4 @@
--- The files of a command of `ocean`: which arguments name them, which names clash, how many words were read. Follows docs/RULES.md, "Programs".
+-- The files of a command of `ocean`: which arguments name them, what is wrong with the names, how many words were read. Follows docs/RULES.md, "Programs".
 -- Assumes nothing.
 use mathlib.Core.Bool.{Bool, true, false, cond, not, _&&_, _||_}
 use mathlib.Core.List.{List, [], _∷_}
@@ -48,6 +48,26 @@ readToo name sheet noise words = sharedName name sheet || sharedName name noise 
 unfoldable pub clashes : List ℕ → List ℕ → List ℕ → List ℕ → List ℕ → Bool
 clashes sheet noise words result picture =
     sharedName result picture || readToo result sheet noise words || readToo picture sheet noise words
+
+-- ---- what is wrong with the names
+
+-- whether a file is asked for, by the number of its argument, and has no name
+unfoldable pub nameless : ℕ → List ℕ → Bool
+nameless index text = not (eqb index 0) && eqb (length text) 0
+
+-- whether a file that is read has no name
+unfoldable pub readNameless : Names → List ℕ → List ℕ → List ℕ → Bool
+readNameless n sheet noise words = nameless (n .sheet) sheet || nameless (n .noise) noise || nameless (n .words) words
+
+-- whether a file that is written or read has no name
+unfoldable pub anyNameless : Names → List ℕ → List ℕ → List ℕ → List ℕ → List ℕ → Bool
+anyNameless n sheet noise words result picture =
+    nameless (n .result) result || nameless (n .picture) picture || readNameless n sheet noise words
+
+-- the number of what is wrong: 10 for a name that is missing, then 7 for names that clash, 0 for nothing
+unfoldable pub namesFault : Names → List ℕ → List ℕ → List ℕ → List ℕ → List ℕ → ℕ
+namesFault n sheet noise words result picture =
+    cond (anyNameless n sheet noise words result picture) 10 (cond (clashes sheet noise words result picture) 7 0)
 
 -- ---- how many words were read
 

@@ -51,10 +51,7 @@ fn dashed(text: &[u8]) -> bool
     if text.len() < 2 {
         return false;
     }
-    if text[0] != b'-' {
-        return false;
-    }
-    text[1] == b'-'
+    text[0] == b'-'
 }
 
 // What an argument is: 0 a file's name, 1 --seed, 2 --svg, 3 another option.
@@ -156,10 +153,13 @@ fn with_seed(plan: Plan, text: &[u8]) -> Plan
     next
 }
 
-// The picture's file.
-fn with_svg(plan: Plan, index: usize) -> Plan
-    ensures { λ r. ⌜ r ≡ withSvg plan index ⌝ }
+// The picture's file. An option in its place says that the name was forgotten.
+fn with_svg(plan: Plan, index: usize, text: &[u8]) -> Plan
+    ensures { λ r. ⌜ r ≡ withSvg plan index (now (text .entry)) ⌝ }
 {
+    if dashed(text) {
+        return with_fault(plan, 2);
+    }
     let mut next = plan;
     next.svg = index;
     next.waits = 0;
@@ -207,7 +207,7 @@ pub fn step(plan: Plan, index: usize, text: &[u8]) -> Plan
         return with_seed(plan, text);
     }
     if plan.waits == 2 {
-        return with_svg(plan, index);
+        return with_svg(plan, index, text);
     }
     with_word(plan, index, text)
 }

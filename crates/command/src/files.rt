@@ -1,10 +1,12 @@
-// The files of a command: which arguments name them, which names clash, and how many words were read.
+// The files of a command: which arguments name them, what is wrong with the names, and how many words were read.
 ghost use mathlib.Core.Path.{_≡_};
 ghost use Rattle.command.specs.Arguments.{numberTold};
-ghost use Rattle.command.specs.Files.{namesOf, seedOf, sharedName, readToo, clashes, wordsTold, wholeWords, noiseWords};
+ghost use Rattle.command.specs.Files.{namesOf, seedOf, sharedName, readToo, clashes, nameless, readNameless, anyNameless, namesFault, wordsTold, wholeWords, noiseWords};
 use crate::arguments::Number;
 use crate::arguments::Plan;
 use crate::arguments::same;
+use crate::sentences::CLASH;
+use crate::sentences::NO_NAME;
 
 // Which arguments name the files, 0 for none.
 pub struct Names {
@@ -81,7 +83,7 @@ fn read_too(name: &[u8], sheet: &[u8], noise: &[u8], words: &[u8]) -> bool
 }
 
 // Whether a file that is to be written has the name of another; a file that is not asked for has the empty name.
-pub fn clash(sheet: &[u8], noise: &[u8], words: &[u8], result: &[u8], picture: &[u8]) -> bool
+fn clash(sheet: &[u8], noise: &[u8], words: &[u8], result: &[u8], picture: &[u8]) -> bool
     ensures { λ r. ⌜ r ≡ clashes (now (sheet .entry)) (now (noise .entry)) (now (words .entry)) (now (result .entry)) (now (picture .entry)) ⌝ }
 {
     if shared(result, picture) {
@@ -91,6 +93,69 @@ pub fn clash(sheet: &[u8], noise: &[u8], words: &[u8], result: &[u8], picture: &
         return true;
     }
     read_too(picture, sheet, noise, words)
+}
+
+// Whether a file is asked for, by the number of its argument, and has no name.
+fn unnamed(index: usize, text: &[u8]) -> bool
+    ensures { λ r. ⌜ r ≡ nameless index (now (text .entry)) ⌝ }
+{
+    if index == 0 {
+        return false;
+    }
+    text.len() == 0
+}
+
+// Whether a file that is read has no name.
+fn read_unnamed(names: Names, sheet: &[u8], noise: &[u8], words: &[u8]) -> bool
+    ensures { λ r. ⌜ r ≡ readNameless names (now (sheet .entry)) (now (noise .entry)) (now (words .entry)) ⌝ }
+{
+    if unnamed(names.sheet, sheet) {
+        return true;
+    }
+    if unnamed(names.noise, noise) {
+        return true;
+    }
+    unnamed(names.words, words)
+}
+
+// Whether a file that is written or read has no name.
+fn any_unnamed(
+    names: Names,
+    sheet: &[u8],
+    noise: &[u8],
+    words: &[u8],
+    result: &[u8],
+    picture: &[u8],
+) -> bool
+    ensures { λ r. ⌜ r ≡ anyNameless names (now (sheet .entry)) (now (noise .entry)) (now (words .entry)) (now (result .entry)) (now (picture .entry)) ⌝ }
+{
+    if unnamed(names.result, result) {
+        return true;
+    }
+    if unnamed(names.picture, picture) {
+        return true;
+    }
+    read_unnamed(names, sheet, noise, words)
+}
+
+// What is wrong with the names of the files, by the texts of their arguments, the empty one where there is none: the fault's number, or 0.
+pub fn fault_of(
+    names: Names,
+    sheet: &[u8],
+    noise: &[u8],
+    words: &[u8],
+    result: &[u8],
+    picture: &[u8],
+) -> usize
+    ensures { λ r. ⌜ r ≡ namesFault names (now (sheet .entry)) (now (noise .entry)) (now (words .entry)) (now (result .entry)) (now (picture .entry)) ⌝ }
+{
+    if any_unnamed(names, sheet, noise, words, result, picture) {
+        return NO_NAME;
+    }
+    if clash(sheet, noise, words, result, picture) {
+        return CLASH;
+    }
+    0
 }
 
 // How many words so many bytes are.

@@ -6,28 +6,9 @@
 //     ocean --svg FILE ..                 and a picture
 //
 // A program cannot end with a status of its own: what went wrong is a sentence on standard error, and nothing is shown.
-use command::arguments::Plan;
 use libc::STDERR_FILENO;
 
-// One argument more.
-fn take(plan: Plan, index: usize) -> Plan {
-    let mut text = io::buffer();
-    let n = os::arg(index, &mut text);
-    command::arguments::step(plan, index, &text[..n])
-}
-
-// What the arguments ask for.
-fn arguments() -> Plan {
-    let count = os::arg_count();
-    let mut plan = command::arguments::begin();
-    let mut i = 1;
-    while i < count {
-        plan = take(plan, i);
-        i += 1;
-    }
-    plan
-}
-
 fn main() {
-    voyage::inner::carry_out(arguments(), STDERR_FILENO);
+    let plan = voyage::inner::arguments(1, os::arg_count());
+    voyage::inner::carry_out(plan, STDERR_FILENO);
 }

@@ -1,11 +1,10 @@
-// rehearsal: carries out commands of `ocean` one after the other, by the same function, and shows each with all that it says and writes.
+// rehearsal: carries out commands of `ocean` one after the other, by the same functions, and shows each with all that it says and writes.
 // For the gate, which runs a program once and holds what it writes to a file. Its arguments are the words of all commands, `then` between two:
 //
 //     W ..           the words of a command of `ocean`
 //     bytes FILE     the bytes of a file, in hexadecimal
-//     text FILE      a file as it stands
+//     text FILE      a file as it stands, up to 65,536 bytes
 ghost use Prim.Native.Nat.{_≤_, _<_};
-use command::arguments::Plan;
 use libc::STDOUT_FILENO;
 
 // Whether an argument is this word.
@@ -57,24 +56,6 @@ fn say(from: usize, end: usize) {
         i += 1;
     }
     end_line();
-}
-
-// One argument more.
-fn take(plan: Plan, index: usize) -> Plan {
-    let mut text = io::buffer();
-    let n = os::arg(index, &mut text);
-    command::arguments::step(plan, index, &text[..n])
-}
-
-// What the arguments of a command ask for.
-fn arguments(from: usize, end: usize) -> Plan {
-    let mut plan = command::arguments::begin();
-    let mut i = from;
-    while i < end {
-        plan = take(plan, i);
-        i += 1;
-    }
-    plan
 }
 
 // Opens a file to be shown, or says that it is not there and answers a negative number.
@@ -145,7 +126,8 @@ fn rehearse(from: usize, end: usize)
     }
     io::write_all(STDOUT_FILENO, b"$ ocean");
     say(from, end);
-    voyage::inner::carry_out(arguments(from, end), STDOUT_FILENO);
+    let plan = voyage::inner::arguments(from, end);
+    voyage::inner::carry_out(plan, STDOUT_FILENO);
 }
 
 fn main() {

@@ -10,7 +10,7 @@ use lib.Bits.{bitXor}
 use lib.ListN.{length, set, take}
 use lib.Pow.{pow-pos, pow-add}
 use lib.Seq.{take-suc-set, take-all}
-use Rattle.seed.specs.Seeds.{stepped, after, laid, scaled, mixed, wordsOf, strip, drawn}
+use Rattle.seed.specs.Seeds.{stepped, after, laid, scaled, mixed, wordsOf, Strip, strip, drawn, both, drawnBoth}
 
 pub product-fits : (k : ℕ) {a b : ℕ} → a < 2 ^ k → b < 2 ^ k → a * b < 2 ^ (k + k)
 product-fits k {a} {b} ha hb =
@@ -51,3 +51,13 @@ drawn-all x i n l state e h h′ d =
     let whole : l ≡ wordsOf x n = rw same at (rw (take-all i l (omega arith)) at (d .words)) in
     let last : state ≡ after x n = rw same at (d .counter) in
     ap (λ (t : List ℕ). strip t state) whole ∙ ap (strip (wordsOf x n)) last
+
+-- ---- noise and words
+
+pub both-drawn : (x n m s t : ℕ) (a b : List ℕ) → strip a s ≡ drawn x n → strip b t ≡ drawn s m → both a b ≡ drawnBoth x n m
+unfolding drawn drawnBoth
+both-drawn x n m s t a b e f =
+    let first : a ≡ wordsOf x n = ap (λ (z : Strip). z .words) e in
+    let last : s ≡ after x n = ap (λ (z : Strip). z .state) e in
+    let second : b ≡ wordsOf s m = ap (λ (z : Strip). z .words) f in
+    ap (λ (y : List ℕ). both y b) first ∙ ap (both (wordsOf x n)) (second ∙ ap (λ (y : ℕ). wordsOf y m) last)

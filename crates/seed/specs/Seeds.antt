@@ -1,4 +1,4 @@
--- Words that follow from a seed: word number k is the counter's value after k + 1 steps, mixed.
+-- Words that follow from a seed: word number k is the counter's value after k + 1 steps, mixed. Follows docs/RULES.md, "Programs".
 -- Assumes nothing.
 use mathlib.Core.List.{List, [], _∷_, _++_}
 use Prim.Native.Nat.{ℕ, zero, suc, _+_, _*_, _/_, _%_, _^_}
@@ -45,3 +45,16 @@ strip words state = record { words = words; state = state }
 unfoldable pub drawn : ℕ → ℕ → Strip
 unfolding wordsOf after
 drawn x n = strip (wordsOf x n) (after x n)
+
+-- noise and words of a run
+pub record Both : Type 0 where
+  pub noise : List ℕ
+  pub words : List ℕ
+
+abbrev pub both : List ℕ → List ℕ → Both
+both noise words = record { noise = noise; words = words }
+
+-- the first n words of a seed are the noise, and the m words that follow are the words
+unfoldable pub drawnBoth : ℕ → ℕ → ℕ → Both
+unfolding wordsOf after
+drawnBoth x n m = both (wordsOf x n) (wordsOf (after x n) m)

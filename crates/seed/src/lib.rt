@@ -6,7 +6,7 @@ ghost use mathlib.Core.Path.{_≡_};
 ghost use Prim.Native.Nat.{_+_, _*_, _/_, _%_, _^_, _<_};
 ghost use lib.Bits.{bitXor};
 ghost use lib.ListN.{length, getD};
-ghost use Rattle.seed.specs.Seeds.{stepped, mixed, strip, drawn};
+ghost use Rattle.seed.specs.Seeds.{stepped, mixed, strip, drawn, both, drawnBoth};
 ghost use Rattle.seed.specs.Strips.{wordAt, wordsIn};
 
 // A product, of which the lowest 32 bits are kept.
@@ -41,7 +41,7 @@ fn step(state: u32) -> u32
 }
 
 // Fills what is lent with words that follow from the state, and answers the state after them.
-pub fn fill(state: u32, out: &mut [u32]) -> u32
+fn fill(state: u32, out: &mut [u32]) -> u32
     ensures { λ r. ⌜ strip (now (out .exit)) r ≡ drawn state (length (now (out .entry))) ⌝ }
 {
     let mut now = state;
@@ -52,6 +52,14 @@ pub fn fill(state: u32, out: &mut [u32]) -> u32
         i += 1;
     }
     now
+}
+
+// Fills the noise with the first words of a seed, and the words with those that follow.
+pub fn fill_both(seed: u32, noise: &mut [u32], words: &mut [u32])
+    ensures { λ _. ⌜ both (now (noise .exit)) (now (words .exit)) ≡ drawnBoth seed (length (now (noise .entry))) (length (now (words .entry))) ⌝ }
+{
+    let state = fill(seed, noise);
+    fill(state, words);
 }
 
 // A byte of the file, and 0 past its end.

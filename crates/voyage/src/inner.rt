@@ -1,13 +1,14 @@
 // A command, carried out. Sentences go to the file that is lent for them: standard error in `ocean`, standard output where they are held to a file.
 ghost use mathlib.Core.Path.{_≡_};
-ghost use Rattle.command.specs.Arguments.{faultOf};
+ghost use Prim.Native.Nat.{_-_};
+ghost use Rattle.command.specs.Arguments as meaning;
+ghost use Rattle.command.specs.Arguments.{faultOf, Asked};
 use bounded::inner::Ground;
 use bounded::inner::Taken;
 use command::arguments::Number;
 use command::arguments::Plan;
 use command::files::Names;
 use command::files::Words;
-use command::sentences::CLASH;
 use command::sentences::CUT;
 use command::sentences::TOO_LARGE;
 use command::sentences::TOO_LONG;
@@ -17,13 +18,34 @@ mod memory;
 mod parts;
 mod show;
 
+// One argument more, by its number; its text is what the system says.
+fn take(plan: Plan, index: usize) -> Plan
+    ensures { λ r. ⌜ meaning.Taken plan index r ⌝ }
+{
+    let mut text = io::buffer();
+    let n = os::arg(index, &mut text);
+    command::arguments::step(plan, index, &text[..n])
+}
+
+// What the arguments from one up to another ask for.
+pub fn arguments(from: usize, end: usize) -> Plan
+    ensures { λ r. ⌜ Asked from (end - from) r ⌝ }
+{
+    let mut plan = command::arguments::begin();
+    let mut i = from;
+    while i < end {
+        plan = take(plan, i);
+        i += 1;
+    }
+    plan
+}
+
 // Noise and words from a seed, one of each for each cell.
 fn laid_from_seed(names: Names, told: i32, seed: u32, sheet: &[u8], ground: Ground) {
     let cells = ground.cells;
     let mut noise = memory::noise_to_lend();
     let mut words = memory::words_to_lend();
-    let state = parts::fill(seed, cells, &mut noise);
-    parts::fill(state, cells, &mut words);
+    parts::fill(seed, cells, &mut noise, &mut words);
     show::run(
         names,
         told,
@@ -106,8 +128,13 @@ fn laid_from_file(names: Names, told: i32, seed: Number) {
     laid(names, told, seed, parts::bytes_of(&bytes, n));
 }
 
-// The practice ocean, or the sheet that is named.
+// The practice ocean, or the sheet that is named; nothing is read or written where something is wrong with the names.
 fn laid_as_asked(names: Names, told: i32, seed: Number) {
+    let fault = files::fault_of(names);
+    if fault != 0 {
+        show::fault(told, fault);
+        return;
+    }
     if names.sheet == 0 {
         let sheet = practice::sheet();
         laid(names, told, seed, &sheet);
@@ -124,8 +151,6 @@ pub fn carry_out(plan: Plan, told: i32) -> usize
     let names = command::files::names_of(plan);
     if wrong != 0 {
         show::fault(told, wrong);
-    } else if files::clash(names) {
-        show::fault(told, CLASH);
     } else {
         laid_as_asked(names, told, command::files::seed_of(plan));
     }

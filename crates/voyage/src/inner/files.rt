@@ -25,8 +25,8 @@ fn name(index: usize, text: &mut [u8]) -> usize
     os::arg(index, text)
 }
 
-// Whether a file that is to be written has the name of another.
-pub(crate) fn clash(names: Names) -> bool {
+// What is wrong with the names of the files, by the fault's number; 0 for nothing.
+pub(crate) fn fault_of(names: Names) -> usize {
     let mut sheet = io::buffer();
     let mut noise = io::buffer();
     let mut words = io::buffer();
@@ -37,7 +37,8 @@ pub(crate) fn clash(names: Names) -> bool {
     let c = name(names.words, &mut words);
     let d = name(names.result, &mut result);
     let e = name(names.picture, &mut picture);
-    command::files::clash(
+    command::files::fault_of(
+        names,
         &sheet[..a],
         &noise[..b],
         &words[..c],

@@ -32,10 +32,13 @@ pub(crate) fn domains_of<'a>(domains: &'a [u64], n: usize) -> &'a [u64]
     domains
 }
 
-// Fills the first n words from a seed, and answers the state after them.
-pub(crate) fn fill(state: u32, n: usize, out: &mut [u32]) -> u32 {
-    if n <= out.len() {
-        return seed::fill(state, &mut out[..n]);
+// Fills the first n words of the noise and of the words from a seed, where there are as many.
+pub(crate) fn fill(seed: u32, n: usize, noise: &mut [u32], words: &mut [u32]) {
+    if noise.len() < n {
+        return;
     }
-    state
+    if words.len() < n {
+        return;
+    }
+    seed::fill_both(seed, &mut noise[..n], &mut words[..n]);
 }

@@ -5,7 +5,6 @@ use crate::inner::parts::domains_of;
 use bounded::inner::Ground;
 use bounded::inner::Laid;
 use command::files::Names;
-use command::sentences::NO_NAME;
 use command::sentences::TOO_LARGE;
 use command::sentences::TOO_LONG;
 use command::sentences::UNWRITTEN;
@@ -27,10 +26,6 @@ pub(crate) fn fault(told: i32, number: usize) {
 
 // What is wrong with the file of this name.
 pub(crate) fn file_fault(told: i32, name: &[u8], number: usize) {
-    if name.len() == 0 {
-        fault(told, NO_NAME);
-        return;
-    }
     let mut page = io::large_buffer();
     let n = command::sentences::put_file_fault(name, number, 0, &mut page);
     files::write(told, &page, n);
