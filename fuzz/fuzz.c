@@ -135,11 +135,17 @@ static void *lend(const void *was, size_t bytes) {
 
 static int all(const uint8_t *at, size_t bytes, uint8_t byte) { return !bytes || (*at == byte && !memcmp(at, at + 1, bytes - 1)); }
 
+/* Whether a lent slice is as it was. One at NULL has no bytes, and the huge one cannot be written. */
 static int same(const void *at) {
     int k;
+    if (!at || at == huge) return 1;
     for (k = 0; k < used_slots; k++)
-        if (slots[k].at == at && slots[k].bytes) return !memcmp(slots[k].at, slots[k].was, slots[k].bytes);
-    return 1;
+        if (slots[k].at == at) return !memcmp(slots[k].at, slots[k].was, slots[k].bytes);
+    fail("what is looked at was not lent");
+    return 0;
+}
+static void only_read(const void *at) {
+    if (!same(at)) fail("a slice that is only read is changed");
 }
 
 /* What lies beside the slices is as it was; all of it now and then, otherwise what is near. */
@@ -486,9 +492,6 @@ static int kept_past(const uint8_t *out, const uint8_t *was, size_t bytes) {
     return out == vast ? all(vast + bytes, SEEN - bytes, 0) : !memcmp(out + bytes, was + bytes, many[OUT] - bytes);
 }
 
-static const uint8_t *the_ids;
-static const uint32_t *the_words, *the_forbids;
-
 static void call_check_table(void) {
     const uint32_t *weights = lend_as(WEIGHTS, w.weights), *offsets = lend_as(OFFSETS, w.offsets);
     the_call = CHECK_TABLE;
@@ -500,9 +503,9 @@ static void call_list(void) {
     const uint32_t *offsets = lend_as(OFFSETS, w.offsets);
     uint64_t answer, beside_it;
     size_t k, start, ids_in;
-    the_ids = lend_as(IDS, w.ids);
+    const uint8_t *ids = lend_as(IDS, w.ids);
     the_call = LIST;
-    answer = murghidossu_list(w.count, offsets, many[OFFSETS], the_ids, many[IDS], w.pattern, w.direction);
+    answer = murghidossu_list(w.count, offsets, many[OFFSETS], ids, many[IDS], w.pattern, w.direction);
     start = answer >> 32;
     ids_in = answer >> 8 & 0xffffff;
     if (judged(answer)) {
@@ -513,7 +516,7 @@ static void call_list(void) {
         if (start != w.offsets[4 * w.pattern + w.direction]) fail("the part begins elsewhere");
     }
     the_call = LIST_REFUSAL;
-    beside_it = murghidossu_list_refusal(w.count, offsets, many[OFFSETS], the_ids, many[IDS], w.pattern, w.direction);
+    beside_it = murghidossu_list_refusal(w.count, offsets, many[OFFSETS], ids, many[IDS], w.pattern, w.direction);
     judged(beside_it);
     all_same();
     if (beside_it != (answer & 255)) fail("list and list_refusal differ");
@@ -562,21 +565,22 @@ static void judge_domains(const uint64_t *domains, int empty, int decided) {
 
 static void call_propagate(void) {
     const uint32_t *offsets = lend_as(OFFSETS, w.offsets);
+    const uint8_t *ids = lend_as(IDS, w.ids);
     uint64_t *domains, answer;
     uint8_t *counts;
     uint32_t *pending;
     size_t k;
-    the_ids = lend_as(IDS, w.ids);
     domains = lend_as(DOMAINS, w.domains);
     counts = lend_old(COUNTS);
     pending = lend_old(PENDING);
     the_call = PROPAGATE;
-    answer = murghidossu_propagate(w.count, offsets, many[OFFSETS], the_ids, many[IDS], w.width, w.height, w.mode, domains, many[DOMAINS], counts,
+    answer = murghidossu_propagate(w.count, offsets, many[OFFSETS], ids, many[IDS], w.width, w.height, w.mode, domains, many[DOMAINS], counts,
                                    many[COUNTS], pending, many[PENDING]);
     if (judged(answer)) {
         if (answer != 0 && answer != 256) fail("an answer that is none");
         settled[answer >> 8]++;
-        if (!same(offsets) || !same(the_ids)) fail("a slice that is only read is changed");
+        only_read(offsets);
+        only_read(ids);
         if (!all(counts, many[COUNTS], 0) || !all((uint8_t *)pending, 4 * w.n_pending, 0)) fail("work memory is not zero");
         judge_domains(domains, answer == 256, 0);
         for (k = 0; k < w.n_domains; k++)
@@ -590,15 +594,13 @@ static uint64_t last_domains[MOST_CELLS];
 
 static void call_run(int result) {
     const uint32_t *weights = lend_as(WEIGHTS, w.weights), *offsets = lend_as(OFFSETS, w.offsets), *noise = lend_as(NOISE, w.noise);
+    const uint32_t *words = lend_as(WORDS, w.words), *forbids = lend_as(FORBIDS, w.forbids);
+    const uint8_t *ids = lend_as(IDS, w.ids), *was = 0;
     uint64_t *domains, answer;
     uint8_t *counts, *marks, *out = 0;
     uint32_t *pending;
     float *floats;
-    const uint8_t *was = 0;
     size_t k, need = MURGHIDOSSU_RESULT_LENGTH(cells_of());
-    the_words = lend_as(WORDS, w.words);
-    the_forbids = lend_as(FORBIDS, w.forbids);
-    the_ids = lend_as(IDS, w.ids);
     domains = lend_old(DOMAINS);
     counts = lend_old(COUNTS);
     pending = lend_old(PENDING);
@@ -608,13 +610,13 @@ static void call_run(int result) {
         was = w.huge >> OUT & 1 ? vast : old(many[OUT]);
         out = lend_as(OUT, was);
         the_call = RUN_RESULT;
-        answer = murghidossu_run_result(the_forbids, many[FORBIDS], w.count, w.width, w.height, w.mode, weights, many[WEIGHTS], offsets, many[OFFSETS],
-                                        the_ids, many[IDS], noise, many[NOISE], the_words, many[WORDS], domains, many[DOMAINS], counts, many[COUNTS], pending,
+        answer = murghidossu_run_result(forbids, many[FORBIDS], w.count, w.width, w.height, w.mode, weights, many[WEIGHTS], offsets, many[OFFSETS],
+                                        ids, many[IDS], noise, many[NOISE], words, many[WORDS], domains, many[DOMAINS], counts, many[COUNTS], pending,
                                         many[PENDING], floats, many[FLOATS], marks, many[MARKS], out, many[OUT]);
     } else {
         the_call = RUN;
-        answer = murghidossu_run(the_forbids, many[FORBIDS], w.count, w.width, w.height, w.mode, weights, many[WEIGHTS], offsets, many[OFFSETS], the_ids,
-                                 many[IDS], noise, many[NOISE], the_words, many[WORDS], domains, many[DOMAINS], counts, many[COUNTS], pending, many[PENDING],
+        answer = murghidossu_run(forbids, many[FORBIDS], w.count, w.width, w.height, w.mode, weights, many[WEIGHTS], offsets, many[OFFSETS], ids,
+                                 many[IDS], noise, many[NOISE], words, many[WORDS], domains, many[DOMAINS], counts, many[COUNTS], pending, many[PENDING],
                                  floats, many[FLOATS], marks, many[MARKS]);
     }
     if (judged(answer)) {
@@ -622,8 +624,12 @@ static void call_run(int result) {
         size_t used = answer >> 32;
         if (end > 3 || used > cells_of() || used > many[WORDS]) fail("an answer that is none");
         ends[end]++;
-        if (!same(weights) || !same(offsets) || !same(noise) || !same(the_words) || !same(the_forbids) || !same(the_ids))
-            fail("a slice that is only read is changed");
+        only_read(weights);
+        only_read(offsets);
+        only_read(noise);
+        only_read(words);
+        only_read(forbids);
+        only_read(ids);
         if (!all(counts, many[COUNTS], 0) || !all((uint8_t *)pending, 4 * w.n_pending, 0) || !all((uint8_t *)floats, 4 * w.n_floats, 0) ||
             !all(marks, many[MARKS], 0))
             fail("work memory is not zero");
@@ -647,14 +653,18 @@ static void call_write(void) {
     const uint32_t *weights = lend_as(WEIGHTS, w.weights), *offsets = lend_as(OFFSETS, w.offsets);
     const uint8_t *was = w.huge >> OUT & 1 ? vast : old(many[OUT]);
     uint8_t *out = lend_as(OUT, was);
+    const uint32_t *forbids = lend_as(FORBIDS, w.forbids);
+    const uint8_t *ids = lend_as(IDS, w.ids);
     uint64_t answer;
     size_t bytes;
-    the_forbids = lend_as(FORBIDS, w.forbids);
     the_call = WRITE;
-    answer = murghidossu_write(w.count, weights, many[WEIGHTS], offsets, many[OFFSETS], lend_as(IDS, w.ids), many[IDS], w.width, w.height, w.mode, the_forbids,
+    answer = murghidossu_write(w.count, weights, many[WEIGHTS], offsets, many[OFFSETS], ids, many[IDS], w.width, w.height, w.mode, forbids,
                                many[FORBIDS], out, many[OUT]);
     if (judged(answer)) {
-        if (!same(weights) || !same(offsets) || !same(the_forbids) || !same(the_ids)) fail("a slice that is only read is changed");
+        only_read(weights);
+        only_read(offsets);
+        only_read(forbids);
+        only_read(ids);
         bytes = answer >> 32;
         if ((answer & 0xffffffff) || bytes != MURGHIDOSSU_SHEET_LENGTH(w.count, w.n_ids, w.n_forbids / 3) || bytes > MURGHIDOSSU_SHEET)
             fail("an answer that is none");
@@ -678,7 +688,7 @@ static void call_sizes_and_read(void) {
     memset(measures, 0, sizeof measures);
     if (judged(answer)) {
         if (answer || n_measures != 6) fail("an answer that is none");
-        if (!same(sheet)) fail("a slice that is only read is changed");
+        only_read(sheet);
         memcpy(measures, to, 48);
         if (measures[0] > 65535 || measures[1] > n_sheet || measures[2] > 65535 || measures[3] > 65535 || measures[4] > 65535 || measures[5] > 4096)
             fail("measures that no sheet has");
@@ -709,7 +719,7 @@ static void call_sizes_and_read(void) {
         if (judged(answer)) {
             size_t bytes;
             if (answer) fail("an answer that is none");
-            if (!same(sheet)) fail("a slice that is only read is changed");
+            only_read(sheet);
             /* the sizes were not asked for where their slice was no six numbers */
             if (n_measures != 6) murghidossu_sizes(sheet, n_sheet, measures, 6);
             if (measures[0] != room[0] || measures[1] > room[2] || 3 * measures[5] > room[3]) fail("read, and not of these sizes");
@@ -760,14 +770,26 @@ static void writes_refused(void) {
     the_call = RUN;
     judged(MURGHIDOSSU_BAD_LENGTH);
 }
+static void writes_accepted(void) {
+    uint32_t *at = lend(w.words, 64);
+    *at ^= 1;
+    the_call = RUN;
+    if (judged(0)) only_read(at);
+}
+static void looks_elsewhere(void) {
+    lend(w.words, 64);
+    the_call = RUN;
+    if (judged(0)) only_read(w.words);
+}
 static void not_listed(void) {
     the_call = SIZES;
     judged(MURGHIDOSSU_BAD_CELL);
 }
 static void nothing_wrong(void) {
-    lend(w.words, 64);
+    uint32_t *at = lend(w.words, 64);
     the_call = RUN;
     judged(MURGHIDOSSU_BAD_LENGTH);
+    if (judged(0)) only_read(at);
 }
 static void see(void) {
     int slot, size;
@@ -780,7 +802,9 @@ static void see(void) {
         }
     spot = huge;
     if (!killed_by(writes)) fail("a write to what is only read is not seen");
-    if (!killed_by(writes_beside) || !killed_by(writes_refused) || !killed_by(not_listed)) fail("a wrong call is not seen");
+    if (!killed_by(writes_beside) || !killed_by(writes_refused) || !killed_by(writes_accepted) || !killed_by(not_listed))
+        fail("a wrong call is not seen");
+    if (!killed_by(looks_elsewhere)) fail("a look at what was not lent is not seen");
     if (killed_by(nothing_wrong)) fail("a right call is not let pass");
 }
 
