@@ -2,8 +2,9 @@
  *
  *     c/test            builds the archive and this program, and runs it on vectors/
  *
- * The recorded runs, refusals and sheets of vectors/ (vectors/README.md says their form), each refusal of each call once more by hand, and
- * what the header says of memory: refused, all is as it was; accepted, work memory is zero and what stands past an output stays. */
+ * The recorded runs, refusals and sheets of vectors/ (vectors/README.md says their form), each refusal of each call once more by hand, with all
+ * the later faults of the call's order beside it, and what the header says of memory: refused, what could be written is as it was; accepted,
+ * work memory is zero and what stands past an output stays. */
 #define _POSIX_C_SOURCE 200112L
 #include "murghidossu.h"
 #include <pthread.h>
@@ -172,6 +173,13 @@ static uint64_t call_result(size_t room) {
                                   the.many[OFFSETS], ids, the.many[IDS], noise, the.many[NOISE], words, the.many[WORDS], domains, lent, counts,
                                   n_counts(), pending, n_pending(), floats, n_floats(), marks, n_marks(), out, room);
 }
+static uint64_t call_propagate(void) {
+    return murghidossu_propagate(count, offsets, the.many[OFFSETS], ids, the.many[IDS], width, height, mode, domains, lent, counts, n_counts(),
+                                 pending, n_pending());
+}
+static uint64_t call_table(void) {
+    return murghidossu_check_table(count, weights, the.many[WEIGHTS], offsets, the.many[OFFSETS], ids, the.many[IDS]);
+}
 static uint64_t call_write(size_t room) {
     return murghidossu_write(count, weights, the.many[WEIGHTS], offsets, the.many[OFFSETS], ids, the.many[IDS], width, height, mode, forbids,
                              the.many[FORBIDS], out, room);
@@ -188,6 +196,17 @@ static int worked_off(void) {
     return zero(counts, c) && old(counts + c, sizeof counts - c) && zero(pending, p) && old((uint8_t *)pending + p, sizeof pending - p) &&
            zero(floats, f) && old((uint8_t *)floats + f, sizeof floats - f) && zero(marks, m) && old(marks + m, sizeof marks - m) &&
            old((uint8_t *)domains + 8 * cells, sizeof domains - 8 * cells);
+}
+
+/* what a sheet is read into has old content, and has it still */
+static void forget(void) {
+    memset(weights, OLD, sizeof weights);
+    memset(offsets, OLD, sizeof offsets);
+    memset(ids, OLD, sizeof ids);
+    memset(forbids, OLD, sizeof forbids);
+}
+static int forgotten(void) {
+    return old(weights, sizeof weights) && old(offsets, sizeof offsets) && old(ids, sizeof ids) && old(forbids, sizeof forbids);
 }
 
 /* ---- recorded runs and sheets */
@@ -207,7 +226,7 @@ static void recorded_run(void) {
     refill();
     check_end(call_result(MURGHIDOSSU_RESULT_LENGTH(cells)));
     EXPECT("past the result", old(out + MURGHIDOSSU_RESULT_LENGTH(cells), 100), 1);
-    EXPECT("the table", murghidossu_check_table(count, weights, the.many[WEIGHTS], offsets, the.many[OFFSETS], ids, the.many[IDS]), 0);
+    EXPECT("the table", call_table(), 0);
 }
 
 static void recorded_sheet(void) {
@@ -227,10 +246,7 @@ static void recorded_sheet(void) {
     EXPECT("height", measures[MURGHIDOSSU_SHEET_HEIGHT], height);
     EXPECT("mode", measures[MURGHIDOSSU_SHEET_MODE], mode);
     EXPECT("forbids", measures[MURGHIDOSSU_SHEET_FORBIDS], the.many[FORBIDS] / 3);
-    memset(weights, OLD, sizeof weights);
-    memset(offsets, OLD, sizeof offsets);
-    memset(ids, OLD, sizeof ids);
-    memset(forbids, OLD, sizeof forbids);
+    forget();
     n = the.many[FORBIDS];
     EXPECT("read", murghidossu_read(the.sheet, the.sheet_many, weights, count, offsets, 4 * count + 1, ids, the.many[IDS] + 5, forbids, n + 4), 0);
     for (k = 0; k < count; k++) EXPECT("weight", weights[k], the.numbers[WEIGHTS][k]);
@@ -252,7 +268,9 @@ static void recorded_refusal(void) {
         EXPECT("refusal", murghidossu_refusal_of(answer), wanted);
         if (wanted) EXPECT("nothing changed", untouched() && answer == wanted, 1);
         refill();
-        EXPECT("refusal with a result", murghidossu_refusal_of(call_result(sizeof out)), wanted);
+        answer = call_result(sizeof out);
+        EXPECT("refusal with a result", murghidossu_refusal_of(answer), wanted);
+        if (wanted) EXPECT("nothing changed", untouched() && answer == wanted, 1);
     } else if (!strcmp(the.call, "propagate")) {
         for (k = 0; k < the.many[DOMAINS]; k++) domains[k] = the.numbers[DOMAINS][k];
         answer = murghidossu_propagate(count, offsets, the.many[OFFSETS], ids, the.many[IDS], width, height, mode, domains, the.many[DOMAINS],
@@ -272,16 +290,19 @@ static void recorded_refusal(void) {
         EXPECT("refusal", murghidossu_refusal_of(answer), wanted);
         if (wanted) EXPECT("nothing written", old(out, sizeof out), 1);
     } else {
-        size_t measures[MURGHIDOSSU_MEASURES_LENGTH] = {0, 0, 0, 0, 0, 0};
+        /* where they are not told, room for two patterns, eight ids and two forbids */
+        static const size_t two[MURGHIDOSSU_MEASURES_LENGTH] = {2, 8, 0, 0, 0, 2};
+        size_t measures[MURGHIDOSSU_MEASURES_LENGTH];
+        memcpy(measures, two, sizeof two);
         answer = murghidossu_sizes(the.sheet, the.sheet_many, measures, MURGHIDOSSU_MEASURES_LENGTH);
         EXPECT("sizes", answer, wanted == 10 ? 10 : 0);
-        memset(weights, OLD, sizeof weights);
-        memset(ids, OLD, sizeof ids);
+        if (wanted == 10) EXPECT("nothing measured", memcmp(measures, two, sizeof two), 0);
+        forget();
         answer = murghidossu_read(the.sheet, the.sheet_many, weights, measures[MURGHIDOSSU_SHEET_COUNT], offsets,
                                   4 * measures[MURGHIDOSSU_SHEET_COUNT] + 1, ids, measures[MURGHIDOSSU_SHEET_IDS], forbids,
                                   3 * measures[MURGHIDOSSU_SHEET_FORBIDS]);
         EXPECT("refusal", answer, wanted);
-        if (wanted) EXPECT("nothing read", old(weights, sizeof weights) && old(ids, sizeof ids), 1);
+        if (wanted) EXPECT("nothing read", forgotten(), 1);
     }
 }
 
@@ -324,6 +345,145 @@ static void asked(void) {
     EXPECT("accepted", murghidossu_check_table(2, two_weights, 2, two_offsets, 9, two_ids, 8), MURGHIDOSSU_ACCEPTED);
     EXPECT("length", murghidossu_list(2, two_offsets, 3, two_ids, 8, 9, 9), MURGHIDOSSU_BAD_LENGTH);
     EXPECT("disagree", murghidossu_list_refusal(2, two_offsets, 9, odd_ids, 8, 9, 9), MURGHIDOSSU_DISAGREE);
+}
+
+/* ---- each refusal in its turn */
+
+/* the two patterns on 2 by 1, with no forbid */
+static void checker(void) {
+    size_t k;
+    count = 2;
+    width = 2;
+    height = 1;
+    mode = MURGHIDOSSU_WRAP_NONE;
+    cells = lent = 2;
+    more = 0;
+    memcpy(weights, two_weights, sizeof two_weights);
+    memcpy(offsets, two_offsets, sizeof two_offsets);
+    memcpy(ids, two_ids, sizeof two_ids);
+    for (k = 0; k < 2; k++) noise[k] = words[k] = (uint32_t)(5 - k);
+    the.many[WEIGHTS] = the.many[NOISE] = the.many[WORDS] = 2;
+    the.many[OFFSETS] = 9;
+    the.many[IDS] = 8;
+    the.many[FORBIDS] = 0;
+    refill();
+}
+/* another forbid, before all others */
+static void forbid_first(uint32_t cell, uint32_t pattern) {
+    memmove(forbids + 3, forbids, the.many[FORBIDS] * sizeof *forbids);
+    forbids[0] = cell;
+    forbids[1] = pattern;
+    forbids[2] = 0;
+    the.many[FORBIDS] += 3;
+}
+static void bad_pattern(void) { forbid_first(1, 2); }
+static void bad_cell(void) { forbid_first(2, 2); }
+static void disagree(void) { ids[0] = 0; }
+static void bad_list(void) { ids[1] = 9; }
+static void bad_weights(void) { weights[0] = 1023; }
+static void bad_length(void) { the.many[OFFSETS] = 8; }
+static void bad_wrap(void) { mode = 4; }
+static void bad_size(void) { width = 65; }
+static void bad_count(void) { count = 0; }
+
+/* Faults, the last of a run's order first: each is put to those above it, and then each call tells this. Domains have a pattern that does not
+ * exist, and the list asked for a pattern and a direction that do not. A sheet is lent room for three patterns where it has no lengths. */
+static const struct {
+    void (*put)(void);
+    unsigned run, propagate, list, table, read;
+} faults[] = {
+    {bad_pattern, 9, 9, 11, 0, 9}, {bad_cell, 8, 9, 11, 0, 8}, {disagree, 7, 7, 7, 7, 7}, {bad_list, 6, 6, 6, 6, 6}, {bad_weights, 4, 6, 6, 4, 4},
+    {bad_length, 5, 5, 5, 5, 5},   {bad_wrap, 2, 2, 5, 5, 2},  {bad_size, 1, 1, 5, 5, 1}, {bad_count, 3, 3, 3, 3, 3},
+};
+#define FAULTS (sizeof faults / sizeof *faults)
+
+/* what is lent now as the bytes of a sheet, whether it can be written or not */
+static size_t u16(size_t at, size_t number) {
+    the.sheet[at] = (uint8_t)number;
+    the.sheet[at + 1] = (uint8_t)(number >> 8);
+    return at + 2;
+}
+static size_t closed(size_t head, size_t kind, size_t end) {
+    u16(head, end - head - 4);
+    u16(head + 2, 0);
+    u16(head + 4, kind);
+    return end;
+}
+static void sheet_of_lent(void) {
+    size_t k, head = 0, n = u16(6, count);
+    for (k = 0; k < count; k++) n = u16(n, weights[k]);
+    head = closed(head, 1, n);
+    for (n += 6, k = 0; k < 4 * count; k++) {
+        the.sheet[n++] = 1;
+        the.sheet[n++] = ids[k];
+    }
+    head = closed(head, 2, n);
+    n = u16(u16(u16(n + 6, width), height), mode);
+    head = closed(head, 3, n);
+    for (n += 6, k = 0; k < the.many[FORBIDS]; k++) n = u16(n, forbids[k]);
+    the.sheet_many = closed(head, 4, n);
+}
+/* reads it into so many entries */
+static void read_it(uint64_t wanted, size_t n_weights, size_t n_offsets, size_t n_ids, size_t n_forbids) {
+    forget();
+    EXPECT("read", murghidossu_read(the.sheet, the.sheet_many, weights, n_weights, offsets, n_offsets, ids, n_ids, forbids, n_forbids), wanted);
+    EXPECT("nothing read", forgotten(), wanted != 0);
+}
+
+static void one_after_the_other(size_t many) {
+    static const uint64_t start[2] = {1, 4};
+    size_t k, patterns = 2;
+    unsigned run = faults[many - 1].run;
+    checker();
+    for (k = 0; k < many; k++) faults[k].put();
+    EXPECT("run", call_run(), run);
+    EXPECT("run with a result", call_result(sizeof out), run);
+    EXPECT("write", call_write(sizeof out), run);
+    EXPECT("nothing changed", untouched(), 1);
+    memcpy(domains, start, sizeof start);
+    EXPECT("propagate", call_propagate(), faults[many - 1].propagate);
+    EXPECT("the domains", memcmp(domains, start, sizeof start), 0);
+    EXPECT("work memory", old(counts, sizeof counts) && old(pending, sizeof pending), 1);
+    EXPECT("list", murghidossu_list(count, offsets, the.many[OFFSETS], ids, the.many[IDS], 2, 4), faults[many - 1].list);
+    EXPECT("beside it", murghidossu_list_refusal(count, offsets, the.many[OFFSETS], ids, the.many[IDS], 2, 4), faults[many - 1].list);
+    EXPECT("table", call_table(), faults[many - 1].table);
+    sheet_of_lent();
+    for (k = 0; k < many; k++)
+        if (faults[k].put == bad_length) patterns = 3;
+    read_it(faults[many - 1].read, patterns, 4 * patterns + 1, 8, 6);
+    the.sheet_many++;
+    read_it(MURGHIDOSSU_BAD_SHEET, patterns, 4 * patterns + 1, 8, 6);
+}
+
+static void in_turn(void) {
+    size_t many, whole;
+    for (many = 1; many <= FAULTS; many++) one_after_the_other(many);
+    /* the forbids one by one: a pattern of the first before a cell of the second */
+    checker();
+    bad_cell();
+    bad_pattern();
+    EXPECT("run", call_run(), MURGHIDOSSU_BAD_PATTERN);
+    EXPECT("run with a result", call_result(sizeof out), MURGHIDOSSU_BAD_PATTERN);
+    EXPECT("write", call_write(sizeof out), MURGHIDOSSU_BAD_PATTERN);
+    EXPECT("nothing changed", untouched(), 1);
+    sheet_of_lent();
+    read_it(MURGHIDOSSU_BAD_PATTERN, 2, 9, 8, 6);
+    /* without a fault, asked for what there is and what there is not, and lent to be read with each length */
+    checker();
+    EXPECT("west of 1", murghidossu_list(2, offsets, 9, ids, 8, 1, MURGHIDOSSU_WEST), (uint64_t)7 << 32 | 1 << 8);
+    EXPECT("of no pattern", murghidossu_list(2, offsets, 9, ids, 8, 2, MURGHIDOSSU_WEST), MURGHIDOSSU_BAD_PATTERN);
+    EXPECT("beside it", murghidossu_list_refusal(2, offsets, 9, ids, 8, 2, MURGHIDOSSU_WEST), MURGHIDOSSU_BAD_PATTERN);
+    forbid_first(0, 1);
+    sheet_of_lent();
+    read_it(MURGHIDOSSU_ACCEPTED, 2, 9, 8, 3);
+    read_it(MURGHIDOSSU_ACCEPTED, 2, 9, 9, 4);
+    read_it(MURGHIDOSSU_BAD_LENGTH, 1, 9, 8, 3);
+    read_it(MURGHIDOSSU_BAD_LENGTH, 3, 9, 8, 3);
+    read_it(MURGHIDOSSU_BAD_LENGTH, 2, 8, 8, 3);
+    read_it(MURGHIDOSSU_BAD_LENGTH, 2, 10, 8, 3);
+    read_it(MURGHIDOSSU_BAD_LENGTH, 2, 9, 7, 3);
+    read_it(MURGHIDOSSU_BAD_LENGTH, 2, 9, 8, 2);
+    for (whole = the.sheet_many, the.sheet_many = 0; the.sheet_many < whole; the.sheet_many++) read_it(MURGHIDOSSU_BAD_SHEET, 2, 9, 8, 3);
 }
 
 /* the smallest sheet of docs/RULES.md */
@@ -380,6 +540,7 @@ static void *everything(void *vectors) {
     file(vectors, "refusals.txt", recorded_refusal, 184);
     file(vectors, "sheets.txt", recorded_sheet, 40);
     asked();
+    in_turn();
     edges();
     return NULL;
 }

@@ -1,6 +1,6 @@
 /* Damaged tables, grids, forbids, domains and sheets through every function of include/murghidossu.h, with memory that tells on them.
  *
- *     fuzz/run [CASES [SEED [FIRST]]]
+ *     fuzz/run [valgrind] [CASES [SEED [FIRST]]]
  *
  * Each case is a small world, made from the seed and the case's number, then damaged in up to three ways: bits flipped, slices cut, lengthened
  * or of no bytes, lengths of billions, numbers out of every range, lists that disagree, sheets with wrong lengths and kinds. It goes through
@@ -10,7 +10,8 @@
  *   - the refusal is one of those that the header lists for the call, and then the answer is that number alone and all lent memory as it was;
  *   - accepted, slices that are only lent to be read are as they were, work memory is zero, what stands past an output stays, and the answer
  *     fits what is written (ends, words used, domains, bytes that read back);
- *   - the call ends.
+ *   - the call ends;
+ *   - under valgrind also: nothing beside a slice is touched, on either side, and what output and work memory held before decides nothing.
  * At the end every refusal of every call must have occurred. */
 #define _GNU_SOURCE
 #include "murghidossu.h"
@@ -20,7 +21,18 @@
 #include <string.h>
 #include <sys/mman.h>
 #include <sys/wait.h>
+#include <time.h>
 #include <unistd.h>
+#ifdef MEMCHECK
+#include <valgrind/memcheck.h>
+#define LONGEST 600 /* seconds that a case may take */
+#else
+#define LONGEST 60
+#define VALGRIND_MAKE_MEM_NOACCESS(at, bytes) ((void)(at))
+#define VALGRIND_MAKE_MEM_UNDEFINED(at, bytes) ((void)(at))
+#define VALGRIND_MAKE_MEM_DEFINED(at, bytes) ((void)(at))
+#define VALGRIND_COUNT_ERRORS 0
+#endif
 
 /* ---- the calls, their refusals, and what came */
 
@@ -100,6 +112,7 @@ static struct lent {
     uint8_t *at, *region;
     size_t bytes, region_bytes;
     const uint8_t *was;
+    int unread; /* what it holds must not matter */
 } slots[SLOTS];
 static int used_slots;
 
@@ -114,6 +127,7 @@ static uint8_t *guarded(size_t pages) {
 static void *lend(const void *was, size_t bytes) {
     struct lent *slot = &slots[used_slots];
     int size = 0;
+    slot->unread = 0;
     if (was == huge || was == vast) {
         if (bytes > HUGE) fail("a slice without memory");
         slot->at = (uint8_t *)was;
@@ -133,13 +147,44 @@ static void *lend(const void *was, size_t bytes) {
     return bytes || one_in(2) ? slot->at : 0;
 }
 
-static int all(const uint8_t *at, size_t bytes, uint8_t byte) { return !bytes || (*at == byte && !memcmp(at, at + 1, bytes - 1)); }
+/* The slice lent last is output or work memory. */
+static void *unread(void *at) {
+    slots[used_slots - 1].unread = 1;
+    return at;
+}
 
-static int same(const void *at) {
+/* A call begins: for valgrind, only what is lent may be touched, and what is unread is not initialised. */
+static void calling(int call) {
+    int k;
+    the_call = call;
+    for (k = 0; k < used_slots; k++) {
+        if (!slots[k].region_bytes) continue;
+        VALGRIND_MAKE_MEM_NOACCESS(slots[k].region, slots[k].region_bytes);
+        if (slots[k].unread) VALGRIND_MAKE_MEM_UNDEFINED(slots[k].at, slots[k].bytes);
+        else VALGRIND_MAKE_MEM_DEFINED(slots[k].at, slots[k].bytes);
+    }
+}
+/* It has ended: all can be looked at again. */
+static void called(void) {
     int k;
     for (k = 0; k < used_slots; k++)
-        if (slots[k].at == at && slots[k].bytes) return !memcmp(slots[k].at, slots[k].was, slots[k].bytes);
-    return 1;
+        if (slots[k].region_bytes) VALGRIND_MAKE_MEM_DEFINED(slots[k].region, slots[k].region_bytes);
+    if (VALGRIND_COUNT_ERRORS) fail("touches what it was not lent, or old content decides, says valgrind");
+}
+
+static int all(const uint8_t *at, size_t bytes, uint8_t byte) { return !bytes || (*at == byte && !memcmp(at, at + 1, bytes - 1)); }
+
+/* Whether a lent slice is as it was. One at NULL has no bytes, and the huge one cannot be written. */
+static int same(const void *at) {
+    int k;
+    if (!at || at == huge) return 1;
+    for (k = 0; k < used_slots; k++)
+        if (slots[k].at == at) return !memcmp(slots[k].at, slots[k].was, slots[k].bytes);
+    fail("what is looked at was not lent");
+    return 0;
+}
+static void only_read(const void *at) {
+    if (!same(at)) fail("a slice that is only read is changed");
 }
 
 /* What lies beside the slices is as it was; all of it now and then, otherwise what is near. */
@@ -177,6 +222,7 @@ static int judged(uint64_t answer) {
     unsigned refusal = (unsigned)(answer & 255);
     if (refusal > 11 || (refusal && !(listed[the_call] & R(refusal)))) fail("a refusal that is not listed");
     told[the_call][refusal]++;
+    called();
     beside();
     if (!refusal) return 1;
     if (answer != refusal) fail("refused, with an answer");
@@ -479,20 +525,18 @@ static void *lend_as(int slice, const void *was) {
     return lend(w.huge >> slice & 1 ? (slice == OUT ? vast : huge) : was, many[slice] * entry[slice]);
 }
 /* Lends one with old content. */
-static void *lend_old(int slice) { return lend_as(slice, w.huge >> slice & 1 ? huge : old(many[slice] * entry[slice])); }
+static void *lend_old(int slice) { return unread(lend_as(slice, w.huge >> slice & 1 ? huge : old(many[slice] * entry[slice]))); }
 
 /* Past so many bytes the output is as it was. */
 static int kept_past(const uint8_t *out, const uint8_t *was, size_t bytes) {
     return out == vast ? all(vast + bytes, SEEN - bytes, 0) : !memcmp(out + bytes, was + bytes, many[OUT] - bytes);
 }
 
-static const uint8_t *the_ids;
-static const uint32_t *the_words, *the_forbids;
-
 static void call_check_table(void) {
     const uint32_t *weights = lend_as(WEIGHTS, w.weights), *offsets = lend_as(OFFSETS, w.offsets);
-    the_call = CHECK_TABLE;
-    if (judged(murghidossu_check_table(w.count, weights, many[WEIGHTS], offsets, many[OFFSETS], lend_as(IDS, w.ids), many[IDS]))) all_same();
+    const uint8_t *ids = lend_as(IDS, w.ids);
+    calling(CHECK_TABLE);
+    if (judged(murghidossu_check_table(w.count, weights, many[WEIGHTS], offsets, many[OFFSETS], ids, many[IDS]))) all_same();
     returned();
 }
 
@@ -500,9 +544,9 @@ static void call_list(void) {
     const uint32_t *offsets = lend_as(OFFSETS, w.offsets);
     uint64_t answer, beside_it;
     size_t k, start, ids_in;
-    the_ids = lend_as(IDS, w.ids);
-    the_call = LIST;
-    answer = murghidossu_list(w.count, offsets, many[OFFSETS], the_ids, many[IDS], w.pattern, w.direction);
+    const uint8_t *ids = lend_as(IDS, w.ids);
+    calling(LIST);
+    answer = murghidossu_list(w.count, offsets, many[OFFSETS], ids, many[IDS], w.pattern, w.direction);
     start = answer >> 32;
     ids_in = answer >> 8 & 0xffffff;
     if (judged(answer)) {
@@ -512,8 +556,8 @@ static void call_list(void) {
             if (w.ids[k] >= w.count || (k > start && w.ids[k] <= w.ids[k - 1])) fail("a part that is no list");
         if (start != w.offsets[4 * w.pattern + w.direction]) fail("the part begins elsewhere");
     }
-    the_call = LIST_REFUSAL;
-    beside_it = murghidossu_list_refusal(w.count, offsets, many[OFFSETS], the_ids, many[IDS], w.pattern, w.direction);
+    calling(LIST_REFUSAL);
+    beside_it = murghidossu_list_refusal(w.count, offsets, many[OFFSETS], ids, many[IDS], w.pattern, w.direction);
     judged(beside_it);
     all_same();
     if (beside_it != (answer & 255)) fail("list and list_refusal differ");
@@ -524,13 +568,13 @@ static void call_asked(void) {
     const uint32_t *weights = lend_as(WEIGHTS, w.weights);
     uint64_t answer;
     uint32_t value;
-    the_call = NEIGHBOUR;
+    calling(NEIGHBOUR);
     answer = murghidossu_neighbour(w.width, w.height, w.mode, w.cell, w.direction);
     if (judged(answer)) {
         found[NEIGHBOUR][answer >> 8 & 1]++;
         if (answer & 256 ? answer != 256 : (answer & 0xffffffff) || (answer >> 32) >= cells_of()) fail("an answer that is none");
     }
-    the_call = ENTROPY_OF;
+    calling(ENTROPY_OF);
     answer = murghidossu_entropy_of(w.count, weights, many[WEIGHTS], w.domain);
     if (judged(answer)) {
         all_same();
@@ -538,7 +582,7 @@ static void call_asked(void) {
         value = (uint32_t)(answer >> 32) & 0x7fffffff;
         if (answer & 256 ? answer != 256 : (answer & 0xffffffff) || value > 0x7f800000) fail("an answer that is none");
     }
-    the_call = CHOICE_OF;
+    calling(CHOICE_OF);
     answer = murghidossu_choice_of(w.count, weights, many[WEIGHTS], w.domain, w.word);
     if (judged(answer)) {
         all_same();
@@ -562,21 +606,22 @@ static void judge_domains(const uint64_t *domains, int empty, int decided) {
 
 static void call_propagate(void) {
     const uint32_t *offsets = lend_as(OFFSETS, w.offsets);
+    const uint8_t *ids = lend_as(IDS, w.ids);
     uint64_t *domains, answer;
     uint8_t *counts;
     uint32_t *pending;
     size_t k;
-    the_ids = lend_as(IDS, w.ids);
     domains = lend_as(DOMAINS, w.domains);
     counts = lend_old(COUNTS);
     pending = lend_old(PENDING);
-    the_call = PROPAGATE;
-    answer = murghidossu_propagate(w.count, offsets, many[OFFSETS], the_ids, many[IDS], w.width, w.height, w.mode, domains, many[DOMAINS], counts,
+    calling(PROPAGATE);
+    answer = murghidossu_propagate(w.count, offsets, many[OFFSETS], ids, many[IDS], w.width, w.height, w.mode, domains, many[DOMAINS], counts,
                                    many[COUNTS], pending, many[PENDING]);
     if (judged(answer)) {
         if (answer != 0 && answer != 256) fail("an answer that is none");
         settled[answer >> 8]++;
-        if (!same(offsets) || !same(the_ids)) fail("a slice that is only read is changed");
+        only_read(offsets);
+        only_read(ids);
         if (!all(counts, many[COUNTS], 0) || !all((uint8_t *)pending, 4 * w.n_pending, 0)) fail("work memory is not zero");
         judge_domains(domains, answer == 256, 0);
         for (k = 0; k < w.n_domains; k++)
@@ -590,15 +635,13 @@ static uint64_t last_domains[MOST_CELLS];
 
 static void call_run(int result) {
     const uint32_t *weights = lend_as(WEIGHTS, w.weights), *offsets = lend_as(OFFSETS, w.offsets), *noise = lend_as(NOISE, w.noise);
+    const uint32_t *words = lend_as(WORDS, w.words), *forbids = lend_as(FORBIDS, w.forbids);
+    const uint8_t *ids = lend_as(IDS, w.ids), *was = 0;
     uint64_t *domains, answer;
     uint8_t *counts, *marks, *out = 0;
     uint32_t *pending;
     float *floats;
-    const uint8_t *was = 0;
     size_t k, need = MURGHIDOSSU_RESULT_LENGTH(cells_of());
-    the_words = lend_as(WORDS, w.words);
-    the_forbids = lend_as(FORBIDS, w.forbids);
-    the_ids = lend_as(IDS, w.ids);
     domains = lend_old(DOMAINS);
     counts = lend_old(COUNTS);
     pending = lend_old(PENDING);
@@ -606,15 +649,15 @@ static void call_run(int result) {
     marks = lend_old(MARKS);
     if (result) {
         was = w.huge >> OUT & 1 ? vast : old(many[OUT]);
-        out = lend_as(OUT, was);
-        the_call = RUN_RESULT;
-        answer = murghidossu_run_result(the_forbids, many[FORBIDS], w.count, w.width, w.height, w.mode, weights, many[WEIGHTS], offsets, many[OFFSETS],
-                                        the_ids, many[IDS], noise, many[NOISE], the_words, many[WORDS], domains, many[DOMAINS], counts, many[COUNTS], pending,
+        out = unread(lend_as(OUT, was));
+        calling(RUN_RESULT);
+        answer = murghidossu_run_result(forbids, many[FORBIDS], w.count, w.width, w.height, w.mode, weights, many[WEIGHTS], offsets, many[OFFSETS],
+                                        ids, many[IDS], noise, many[NOISE], words, many[WORDS], domains, many[DOMAINS], counts, many[COUNTS], pending,
                                         many[PENDING], floats, many[FLOATS], marks, many[MARKS], out, many[OUT]);
     } else {
-        the_call = RUN;
-        answer = murghidossu_run(the_forbids, many[FORBIDS], w.count, w.width, w.height, w.mode, weights, many[WEIGHTS], offsets, many[OFFSETS], the_ids,
-                                 many[IDS], noise, many[NOISE], the_words, many[WORDS], domains, many[DOMAINS], counts, many[COUNTS], pending, many[PENDING],
+        calling(RUN);
+        answer = murghidossu_run(forbids, many[FORBIDS], w.count, w.width, w.height, w.mode, weights, many[WEIGHTS], offsets, many[OFFSETS], ids,
+                                 many[IDS], noise, many[NOISE], words, many[WORDS], domains, many[DOMAINS], counts, many[COUNTS], pending, many[PENDING],
                                  floats, many[FLOATS], marks, many[MARKS]);
     }
     if (judged(answer)) {
@@ -622,8 +665,12 @@ static void call_run(int result) {
         size_t used = answer >> 32;
         if (end > 3 || used > cells_of() || used > many[WORDS]) fail("an answer that is none");
         ends[end]++;
-        if (!same(weights) || !same(offsets) || !same(noise) || !same(the_words) || !same(the_forbids) || !same(the_ids))
-            fail("a slice that is only read is changed");
+        only_read(weights);
+        only_read(offsets);
+        only_read(noise);
+        only_read(words);
+        only_read(forbids);
+        only_read(ids);
         if (!all(counts, many[COUNTS], 0) || !all((uint8_t *)pending, 4 * w.n_pending, 0) || !all((uint8_t *)floats, 4 * w.n_floats, 0) ||
             !all(marks, many[MARKS], 0))
             fail("work memory is not zero");
@@ -646,15 +693,19 @@ static uint8_t written[MOST_SHEET];
 static void call_write(void) {
     const uint32_t *weights = lend_as(WEIGHTS, w.weights), *offsets = lend_as(OFFSETS, w.offsets);
     const uint8_t *was = w.huge >> OUT & 1 ? vast : old(many[OUT]);
-    uint8_t *out = lend_as(OUT, was);
+    uint8_t *out = unread(lend_as(OUT, was));
+    const uint32_t *forbids = lend_as(FORBIDS, w.forbids);
+    const uint8_t *ids = lend_as(IDS, w.ids);
     uint64_t answer;
     size_t bytes;
-    the_forbids = lend_as(FORBIDS, w.forbids);
-    the_call = WRITE;
-    answer = murghidossu_write(w.count, weights, many[WEIGHTS], offsets, many[OFFSETS], lend_as(IDS, w.ids), many[IDS], w.width, w.height, w.mode, the_forbids,
+    calling(WRITE);
+    answer = murghidossu_write(w.count, weights, many[WEIGHTS], offsets, many[OFFSETS], ids, many[IDS], w.width, w.height, w.mode, forbids,
                                many[FORBIDS], out, many[OUT]);
     if (judged(answer)) {
-        if (!same(weights) || !same(offsets) || !same(the_forbids) || !same(the_ids)) fail("a slice that is only read is changed");
+        only_read(weights);
+        only_read(offsets);
+        only_read(forbids);
+        only_read(ids);
         bytes = answer >> 32;
         if ((answer & 0xffffffff) || bytes != MURGHIDOSSU_SHEET_LENGTH(w.count, w.n_ids, w.n_forbids / 3) || bytes > MURGHIDOSSU_SHEET)
             fail("an answer that is none");
@@ -671,14 +722,14 @@ static void call_sizes_and_read(void) {
     size_t n_sheet = many[SHEET], n_measures = one_in(8) ? below(8) : MURGHIDOSSU_MEASURES_LENGTH, room[4];
     const uint8_t *sheet = lend_as(SHEET, w.sheet), *old_ids;
     const uint32_t *old_weights, *old_offsets, *old_forbids;
-    size_t *to = lend(old(8 * n_measures), 8 * n_measures);
+    size_t *to = unread(lend(old(8 * n_measures), 8 * n_measures));
     uint64_t answer;
-    the_call = SIZES;
+    calling(SIZES);
     answer = murghidossu_sizes(sheet, n_sheet, to, n_measures);
     memset(measures, 0, sizeof measures);
     if (judged(answer)) {
         if (answer || n_measures != 6) fail("an answer that is none");
-        if (!same(sheet)) fail("a slice that is only read is changed");
+        only_read(sheet);
         memcpy(measures, to, 48);
         if (measures[0] > 65535 || measures[1] > n_sheet || measures[2] > 65535 || measures[3] > 65535 || measures[4] > 65535 || measures[5] > 4096)
             fail("measures that no sheet has");
@@ -700,16 +751,16 @@ static void call_sizes_and_read(void) {
         uint32_t *to_weights, *to_offsets, *to_forbids;
         uint8_t *to_ids;
         sheet = lend_as(SHEET, w.sheet);
-        to_weights = lend(old_weights, 4 * room[0]);
-        to_offsets = lend(old_offsets, 4 * room[1]);
-        to_ids = lend(old_ids, room[2]);
-        to_forbids = lend(old_forbids, 4 * room[3]);
-        the_call = READ;
+        to_weights = unread(lend(old_weights, 4 * room[0]));
+        to_offsets = unread(lend(old_offsets, 4 * room[1]));
+        to_ids = unread(lend(old_ids, room[2]));
+        to_forbids = unread(lend(old_forbids, 4 * room[3]));
+        calling(READ);
         answer = murghidossu_read(sheet, n_sheet, to_weights, room[0], to_offsets, room[1], to_ids, room[2], to_forbids, room[3]);
         if (judged(answer)) {
             size_t bytes;
             if (answer) fail("an answer that is none");
-            if (!same(sheet)) fail("a slice that is only read is changed");
+            only_read(sheet);
             /* the sizes were not asked for where their slice was no six numbers */
             if (n_measures != 6) murghidossu_sizes(sheet, n_sheet, measures, 6);
             if (measures[0] != room[0] || measures[1] > room[2] || 3 * measures[5] > room[3]) fail("read, and not of these sizes");
@@ -750,24 +801,50 @@ static void writes(void) { *spot = 1; }
 static void writes_beside(void) {
     uint32_t *at = lend(w.words, 64);
     uint8_t *bytes = (uint8_t *)at;
-    bytes[slots[0].at == slots[0].region ? 64 : -1] ^= 1;
     the_call = RUN;
+    bytes[slots[0].at == slots[0].region ? 64 : -1] ^= 1;
     judged(0);
 }
 static void writes_refused(void) {
     uint32_t *at = lend(w.words, 64);
     *at ^= 1;
-    the_call = RUN;
+    calling(RUN);
     judged(MURGHIDOSSU_BAD_LENGTH);
 }
+static void writes_accepted(void) {
+    uint32_t *at = lend(w.words, 64);
+    *at ^= 1;
+    calling(RUN);
+    if (judged(0)) only_read(at);
+}
+static void looks_elsewhere(void) {
+    lend(w.words, 64);
+    calling(RUN);
+    if (judged(0)) only_read(w.words);
+}
+#ifdef MEMCHECK
+static void reads_beside(void) {
+    volatile uint8_t *at = lend(w.words, 64);
+    calling(RUN);
+    seen = at[slots[0].at == slots[0].region ? 64 : -1];
+    judged(0);
+}
+static void old_decides(void) {
+    volatile uint8_t *at = unread(lend(w.words, 64));
+    calling(RUN);
+    if (*at > 100) _exit(0);
+    judged(0);
+}
+#endif
 static void not_listed(void) {
-    the_call = SIZES;
+    calling(SIZES);
     judged(MURGHIDOSSU_BAD_CELL);
 }
 static void nothing_wrong(void) {
-    lend(w.words, 64);
-    the_call = RUN;
+    uint32_t *at = lend(w.words, 64);
+    calling(RUN);
     judged(MURGHIDOSSU_BAD_LENGTH);
+    if (judged(0)) only_read(at);
 }
 static void see(void) {
     int slot, size;
@@ -780,14 +857,19 @@ static void see(void) {
         }
     spot = huge;
     if (!killed_by(writes)) fail("a write to what is only read is not seen");
-    if (!killed_by(writes_beside) || !killed_by(writes_refused) || !killed_by(not_listed)) fail("a wrong call is not seen");
+    if (!killed_by(writes_beside) || !killed_by(writes_refused) || !killed_by(writes_accepted) || !killed_by(not_listed))
+        fail("a wrong call is not seen");
+    if (!killed_by(looks_elsewhere)) fail("a look at what was not lent is not seen");
+#ifdef MEMCHECK
+    if (!killed_by(reads_beside) || !killed_by(old_decides)) fail("a read that only valgrind sees is not seen");
+#endif
     if (killed_by(nothing_wrong)) fail("a right call is not let pass");
 }
 
 /* ---- */
 
 static int report(unsigned long cases) {
-    unsigned long calls = 0;
+    unsigned long calls = 0, seconds = (unsigned long)(clock() / CLOCKS_PER_SEC);
     int c, r, missed = 0;
     printf("%-13s %9s", "call", "accepted");
     for (r = 1; r < 12; r++) printf(" %8d", r);
@@ -811,6 +893,7 @@ static int report(unsigned long cases) {
     printf("fuzz: seed %llu, %lu cases: tables, grids, forbids or domains damaged in %lu, bytes of the sheet in %lu\n", the_seed, cases,
            damaged_worlds, damaged_sheets);
     printf("fuzz: %lu calls: all ended, nothing outside the lent slices was touched, and every refusal left memory as it was\n", calls);
+    printf("fuzz: %lu s of processor time\n", seconds);
     for (c = 0; c < 4; c++) missed += !ends[c];
     missed += !settled[0] + !settled[1];
     for (c = NEIGHBOUR; c <= CHOICE_OF; c++) missed += !found[c][0] + !found[c][1];
@@ -841,7 +924,7 @@ int main(int argc, char **argv) {
     see();
     for (the_case = first; the_case < first + cases; the_case++) {
         state = the_seed * 0x100000001b3u + the_case;
-        alarm(60);
+        alarm(LONGEST);
         make_world();
         damages = one_in(20) ? 0 : 1 + (int)below(3);
         damaged_worlds += damages > 0;

@@ -5,7 +5,8 @@
 //! keeps state between calls, and every call ends. docs/RULES.md of the repository says what each call does, and docs/CONTRACTS.md which
 //! proved contract stands behind it.
 //!
-//! Lent work memory may hold anything before a call; it is all zero after an accepted one. [`lengths`] has the length of every slice.
+//! Lent work memory may hold anything before a call; it is all zero after an accepted one. [`lengths`] has the length of every slice. A thread
+//! that calls needs less than 200,000 bytes of stack, most of it for [`read`]; c/test of the repository measures it.
 //!
 //! ```
 //! use murghidossu::{lengths, Forbid, Grid, Memory, Table, End, WRAP_X};

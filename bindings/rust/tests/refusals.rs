@@ -189,16 +189,27 @@ fn runs_and_write_refuse() {
     }
 }
 
-/// Every slice that a run is lent, one entry longer and one shorter.
+/// Every slice of a run that has one length, one entry longer and one shorter; then forbids and the result.
 #[test]
 fn runs_refuse_each_length() {
-    let changed: [fn(&mut Lent); 3] = [|l| l.weights.push(0), |l| l.offsets.push(8), |l| l.noise.push(0)];
-    for change in changed {
+    let changed: [fn(&mut Lent); 6] = [
+        |l| l.weights.push(0),
+        |l| l.offsets.push(8),
+        |l| l.noise.push(0),
+        |l| l.weights.truncate(1),
+        LENGTH,
+        |l| l.noise.truncate(1),
+    ];
+    for (k, change) in changed.into_iter().enumerate() {
         let lent = with(&[change]);
+        let mut room = lent.room();
+        let before = room.clone();
         assert_eq!(
-            run(&[], lent.table(), lent.grid, &lent.noise, &[], checker().room().lend()),
-            Err(BadLength)
+            run(&[], lent.table(), lent.grid, &lent.noise, &[], room.lend()),
+            Err(BadLength),
+            "{k}"
         );
+        assert!(room == before, "{k}");
     }
     let lent = checker();
     for k in 0..10 {
