@@ -22,10 +22,13 @@ pub use wrap::Wrap;
 
 pub mod cases;
 pub mod damage;
+pub mod figures;
 pub mod generate;
+pub mod judge;
 pub mod minimise;
 pub mod numbers;
 pub mod ours;
 pub mod rules;
+pub mod selftest;
 #[cfg(feature = "trace")]
 pub mod told;
