@@ -25,6 +25,7 @@ pub mod damage;
 pub mod figures;
 pub mod generate;
 pub mod judge;
+pub mod mend;
 pub mod minimise;
 pub mod numbers;
 pub mod ours;

@@ -14,7 +14,7 @@
 
 use oracle::cases::{self, Case, Told};
 use oracle::figures::{self, Figures, Ground};
-use oracle::{damage, generate, judge, minimise, probe, rules, selftest, told};
+use oracle::{damage, generate, judge, mend, minimise, probe, rules, selftest, told};
 use std::env;
 use std::process::exit;
 use std::time::Instant;
@@ -33,10 +33,10 @@ fn compare(case: &Case, figures: &mut Figures) {
     if differs(case, figures).is_none() {
         return;
     }
-    let mut least = case.clone();
-    if rules::refusal(case) == 0 {
-        let mut shows = |c: &Case| rules::refusal(c) == 0 && differs(c, &mut Figures::default()).is_some();
-        least = minimise::minimise(case, &mut shows);
+    let mut shows = |c: &Case| differs(c, &mut Figures::default()).is_some();
+    let mut least = mend::minimise(case, &mut shows);
+    if rules::refusal(&least) == 0 {
+        least = minimise::minimise(&least, &mut |c| rules::refusal(c) == 0 && shows(c));
     }
     let why = differs(&least, &mut Figures::default()).unwrap_or_default();
     println!("A difference, found at: {}\n\n{}\n{}", case.name, least, why);
