@@ -29,7 +29,9 @@ pub mod mend;
 pub mod minimise;
 pub mod numbers;
 pub mod ours;
+pub mod parts;
 pub mod rules;
 pub mod selftest;
+pub mod shorten;
 #[cfg(feature = "trace")]
 pub mod told;

@@ -4,7 +4,7 @@
 use crate::cases::{Case, Ended, Told, CONTRADICTION};
 use crate::figures::{self, Figures, Ground};
 use crate::judge::{against_rules, against_rust};
-use crate::{damage, generate, mend, probe, rules};
+use crate::{damage, generate, minimise, probe, rules};
 
 /// This answer, altered in each part that is compared. It has two cells and two choices or more.
 fn altered(right: &Ended) -> Vec<(&'static str, Ended)> {
@@ -134,7 +134,7 @@ fn refused(number: u32) -> Result<(), String> {
         "a refused case that ends is not told",
         &case,
     )?;
-    let least = mend::minimise(&case, &mut |c| rules::refusal(c) == number);
+    let least = minimise::refused(&case, &mut |c| rules::refusal(c) == number);
     let small = least.count <= 2 && least.cells() <= 1 && least.ids.len() <= 8 && least.forbids.len() <= 3;
     let small = small && rules::refusal(&least) == number;
     require(small, "a refused case is not brought to its smallest", &case)

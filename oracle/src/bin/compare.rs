@@ -14,7 +14,7 @@
 
 use oracle::cases::{self, Case, Told};
 use oracle::figures::{self, Figures, Ground};
-use oracle::{damage, generate, judge, mend, minimise, probe, rules, selftest, told};
+use oracle::{damage, generate, judge, minimise, probe, rules, selftest, told};
 use std::env;
 use std::process::exit;
 use std::time::Instant;
@@ -34,7 +34,7 @@ fn compare(case: &Case, figures: &mut Figures) {
         return;
     }
     let mut shows = |c: &Case| differs(c, &mut Figures::default()).is_some();
-    let mut least = mend::minimise(case, &mut shows);
+    let mut least = minimise::refused(case, &mut shows);
     if rules::refusal(&least) == 0 {
         least = minimise::minimise(&least, &mut |c| rules::refusal(c) == 0 && shows(c));
     }
