@@ -184,13 +184,11 @@ pub fn nine() -> Vec<Case> {
     cases
 }
 
-/// Rings without wrap: more cells at 16 patterns, then more patterns at 32 by 32.
+/// Rings without wrap: more cells at 16 patterns, then more patterns at 32 by 32. Each is there once, so 32 by 32 with 16 belongs to both.
 pub fn growing() -> Vec<Case> {
-    let sides = [8, 16, 32].iter().map(|&side| (16, side));
-    let patterns = [8, 16, 32, 64].iter().map(|&p| (p, 32));
-    sides
-        .chain(patterns)
-        .map(|(p, side)| {
+    [(16, 8), (16, 16), (8, 32), (16, 32), (32, 32), (64, 32)]
+        .iter()
+        .map(|&(p, side)| {
             let mut case = first(&shape("", p, side, side, 0, 0, Pairs::Ring), ends);
             case.name = format!("{}x{} P={} mode 0, ring", side, side, p);
             case

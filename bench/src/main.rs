@@ -56,19 +56,24 @@ fn nine(rounds: usize) {
 }
 
 fn growth(rounds: usize) {
-    println!("| Input | Choices | original, µs | ours, µs | ours, ns for each cell | Ratio |");
-    println!("|---|---|---|---|---|---|");
+    println!("| Input | Choices | P · list | Lowered supports | for each cell | original, µs | ours, µs | ours, ns for each cell | Ratio |");
+    println!("|---|---|---|---|---|---|---|---|---|");
     for case in inputs::growing() {
         same(&case);
         let t = timing::of(&case, rounds);
-        let ours = t.ns[Side::OursKept as usize];
+        let (cells, ours) = (case.cells() as f64, t.ns[Side::OursKept as usize]);
+        let lowered = oracle::rules::lowered(&case);
         println!(
-            "| {} | {} | {:.1} | {:.1} | {:.0} | {} |",
+            "| {} | {} | {} | {} | {:.1} | {:.1} | {:.1} | {:.0} | {} |",
             case.name,
             oracle::probe::run(&case).ended.used,
+            // the lists of a ring are all of one length, and there are four for each pattern
+            case.ids.len() / 4,
+            lowered,
+            lowered as f64 / cells,
             t.ns[Side::TheirsKept as usize] / 1000.0,
             ours / 1000.0,
-            ours / case.cells() as f64,
+            ours / cells,
             t.kept
         );
     }

@@ -13,14 +13,16 @@ pub struct Room {
 }
 
 impl Room {
-    /// The published lengths, of P patterns at n cells.
+    /// The published lengths, of P patterns at n cells. Where these are huge, since a case is damaged, so are the lengths.
     pub fn of(p: usize, n: usize) -> Self {
+        let pending = p.saturating_mul(n);
+        let floats = n.saturating_mul(2);
         Self {
             domains: n,
-            counts: 4 * p * n,
-            pending: p * n,
-            floats: 2 * n,
-            marks: 2 * n + (n + 31) / 32,
+            counts: pending.saturating_mul(4),
+            pending,
+            floats,
+            marks: floats.saturating_add(n.saturating_add(31) / 32),
         }
     }
 }

@@ -22,10 +22,16 @@ pub use wrap::Wrap;
 
 pub mod cases;
 pub mod damage;
+pub mod figures;
 pub mod generate;
+pub mod judge;
+pub mod mend;
 pub mod minimise;
 pub mod numbers;
 pub mod ours;
+pub mod parts;
 pub mod rules;
+pub mod selftest;
+pub mod shorten;
 #[cfg(feature = "trace")]
 pub mod told;

@@ -1,6 +1,10 @@
 //! The smallest case that still shows something: forbids, words, rows, columns and patterns go as long as it does.
 
 use crate::cases::{Case, Room};
+use crate::mend::{faults, mends};
+use crate::parts::Step;
+use crate::rules;
+use crate::shorten::{shortenings, size};
 
 const OPPOSITE: [usize; 4] = [2, 3, 0, 1];
 
@@ -163,4 +167,41 @@ pub fn minimise(case: &Case, shows: &mut dyn FnMut(&Case) -> bool) -> Case {
         }
         return least;
     }
+}
+
+// ---- cases that are refused
+
+/// The first of the steps after which `good` is so.
+fn first(case: &Case, steps: Vec<Step>, good: &mut dyn FnMut(&Case) -> bool) -> Option<Case> {
+    steps.iter().find_map(|step| {
+        let mut next = case.clone();
+        step(&mut next);
+        if good(&next) {
+            Some(next)
+        } else {
+            None
+        }
+    })
+}
+
+/// A case that `shows`, with as few faults as these steps leave, and none where it shows without. If it is refused it is as small as they make it.
+pub fn refused(case: &Case, shows: &mut dyn FnMut(&Case) -> bool) -> Case {
+    let mut least = case.clone();
+    loop {
+        let now = faults(&least);
+        match first(&least, mends(&least), &mut |c| faults(c) < now && shows(c)) {
+            Some(next) => least = next,
+            None => break,
+        }
+    }
+    let number = rules::refusal(&least);
+    while number != 0 {
+        let now = size(&least);
+        let mut good = |c: &Case| size(c) < now && rules::refusal(c) == number && shows(c);
+        match first(&least, shortenings(&least), &mut good) {
+            Some(next) => least = next,
+            None => break,
+        }
+    }
+    least
 }

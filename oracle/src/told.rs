@@ -147,12 +147,22 @@ impl Memory {
     }
 }
 
+/// The six slices that are only read are as they were.
+fn only_read(lent: &Case, case: &Case) -> bool {
+    let table = lent.weights == case.weights && lent.offsets == case.offsets && lent.ids == case.ids;
+    table && lent.forbids == case.forbids && lent.noise == case.noise && lent.words == case.words
+}
+
 /// What a call comes to, with its choices, or what it did to lent memory that no call may do.
 pub fn told(case: &Case) -> Result<Told, &'static str> {
     let mut memory = Memory::new(&case.room);
-    let (refusal, end, used) = run(case, memory.slices());
+    let lent = case.clone();
+    let (refusal, end, used) = run(&lent, memory.slices());
     if !memory.fenced() {
         return Err("memory beside what was lent is changed");
+    }
+    if !only_read(&lent, case) {
+        return Err("what was lent to be read is changed");
     }
     if refusal != 0 {
         if !memory.unchanged() {
@@ -168,7 +178,10 @@ pub fn told(case: &Case) -> Result<Told, &'static str> {
         return Err("accepted, and work memory is not zero");
     }
     let domains = memory.domains.lent().to_vec();
-    let choices = trace(case).ok_or("memory beside what was lent for the choices is changed")?;
+    let choices = trace(&lent).ok_or("memory beside what was lent for the choices is changed")?;
+    if !only_read(&lent, case) {
+        return Err("what was lent to be read for the choices is changed");
+    }
     Ok(Told::Ended(Ended {
         end,
         used,

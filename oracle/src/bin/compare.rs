@@ -1,5 +1,6 @@
 //! Runs the published Rust and Murghidossu on the same cases, and tells the first difference at its smallest.
 //!
+//!     compare                        the five comparisons of docs/DIFFERENCES.md, each of which must meet its ground (src/figures.rs)
 //!     compare random COUNT SEED      random cases that docs/RULES.md accepts
 //!     compare damaged COUNT SEED     random cases with a fault or two
 //!     compare two                    every table of two patterns on small grids
@@ -8,95 +9,23 @@
 //!     compare findings SEED          the smallest cases that show where the Rust gives no ground
 //!     compare show COUNT SEED        writes random cases, as a file holds them, with the Rust's answers
 //!
-//! Several may follow each other. Status 0: no difference. Status 1: one, which is told.
+//! Several may follow each other. Before the first case answers are altered, and the comparer must tell each (src/selftest.rs).
+//! Status 0: no difference. Status 1: one, which is told; or one of the five lacks ground, or the comparer fails to tell an altered answer.
 
-use oracle::cases::{self, Case, Ended, Told, CONTRADICTION};
-use oracle::{damage, generate, minimise, probe, rules, told};
+use oracle::cases::{self, Case, Told};
+use oracle::figures::{self, Figures, Ground};
+use oracle::{damage, generate, judge, minimise, probe, rules, selftest, told};
 use std::env;
 use std::process::exit;
 use std::time::Instant;
 
-/// How many cases ended so, were compared on which ground, and what was seen of the published code.
-#[derive(Default)]
-struct Figures {
-    cases: u64,
-    modes: [u64; 4],
-    /// by the shorter side, up to 3
-    sides: [u64; 4],
-    patterns: u64,
-    ends: [u64; 4],
-    choices: u64,
-    refused: [u64; 12],
-    against_rust: u64,
-    silent: u64,
-    silent_by_choice: u64,
-    equal_noise: u64,
-    equal_noise_apart: u64,
-    panicked: u64,
-}
-
-fn apart(what: &str, left: &dyn std::fmt::Display, right: &dyn std::fmt::Display) -> String {
-    format!("{}\n{}Murghidossu:\n{}", what, left, right)
-}
-
 /// What is told of a difference, or nothing.
 fn differs(case: &Case, figures: &mut Figures) -> Option<String> {
     figures.cases += 1;
-    let mine = match told::told(case) {
-        Ok(told) => told,
-        Err(why) => return Some(format!("Murghidossu: {}\n", why)),
-    };
-    let ruled = rules::told(case);
-    if mine != ruled {
-        return Some(apart("docs/RULES.md:", &ruled, &mine));
+    match told::told(case) {
+        Ok(mine) => judge::differs(case, &mine, figures),
+        Err(why) => Some(format!("Murghidossu: {}\n", why)),
     }
-    match mine {
-        Told::Refused(number) => {
-            figures.refused[number as usize] += 1;
-            None
-        }
-        Told::Ended(mine) => {
-            figures.modes[case.mode] += 1;
-            figures.sides[case.width.min(case.height).min(4) - 1] += 1;
-            figures.patterns |= 1 << (case.count - 1);
-            figures.ends[mine.end as usize] += 1;
-            figures.choices += mine.choices.len() as u64;
-            against_rust(case, &mine, figures)
-        }
-    }
-}
-
-fn against_rust(case: &Case, mine: &Ended, figures: &mut Figures) -> Option<String> {
-    let rust = probe::run(case);
-    if !case.distinct_noise() {
-        figures.equal_noise += 1;
-        figures.equal_noise_apart += (rust.ended != *mine) as u64;
-        return None;
-    }
-    if let Some(why) = rust.broken.first() {
-        return Some(format!("not so of the Rust: {}\n", why));
-    }
-    if let Some(used) = rust.silent {
-        // here an empty cell is a contradiction, at the word that emptied it
-        figures.silent += 1;
-        figures.silent_by_choice += (used > 0) as u64;
-        figures.panicked += rust.panicked as u64;
-        let contradicted =
-            mine.end == CONTRADICTION && mine.used == used && rust.ended.choices.get(..used) == Some(&mine.choices[..]);
-        return if contradicted {
-            None
-        } else {
-            Some(apart("the Rust, past an empty cell:", &rust.ended, mine))
-        };
-    }
-    if rust.panicked {
-        return Some("the Rust panicked\n".to_string());
-    }
-    figures.against_rust += 1;
-    if rust.ended != *mine {
-        return Some(apart("the Rust:", &rust.ended, mine));
-    }
-    None
 }
 
 /// Compares a case, and at the first difference tells it at its smallest and stops.
@@ -104,42 +33,25 @@ fn compare(case: &Case, figures: &mut Figures) {
     if differs(case, figures).is_none() {
         return;
     }
-    let mut least = case.clone();
-    if rules::refusal(case) == 0 {
-        let mut shows = |c: &Case| rules::refusal(c) == 0 && differs(c, &mut Figures::default()).is_some();
-        least = minimise::minimise(case, &mut shows);
+    let mut shows = |c: &Case| differs(c, &mut Figures::default()).is_some();
+    let mut least = minimise::refused(case, &mut shows);
+    if rules::refusal(&least) == 0 {
+        least = minimise::minimise(&least, &mut |c| rules::refusal(c) == 0 && shows(c));
     }
     let why = differs(&least, &mut Figures::default()).unwrap_or_default();
     println!("A difference, found at: {}\n\n{}\n{}", case.name, least, why);
     exit(1);
 }
 
-fn tell(what: &str, figures: &Figures, began: Instant) {
-    println!(
-        "{}: {} cases, no difference ({} s)",
-        what,
-        figures.cases,
-        began.elapsed().as_secs()
-    );
-    let [decided, undecided, paused, contradiction] = figures.ends;
-    println!(
-        "  ends: {} Decided, {} Undecided, {} Paused, {} Contradiction; {} choices",
-        decided, undecided, paused, contradiction, figures.choices
-    );
-    println!(
-        "  accepted: {} of mode 0, {} of 1, {} of 2, {} of 3; shorter side 1 in {}, 2 in {}, 3 in {}; {} different numbers of patterns",
-        figures.modes[0], figures.modes[1], figures.modes[2], figures.modes[3], figures.sides[0], figures.sides[1], figures.sides[2], figures.patterns.count_ones()
-    );
-    println!(
-        "  compared with the Rust: {}; outside its grounds: {} where it empties a cell unnoticed ({} of them by a choice; {} end in a panic), {} with equal noise words ({} of them end otherwise)",
-        figures.against_rust, figures.silent, figures.silent_by_choice, figures.panicked, figures.equal_noise, figures.equal_noise_apart
-    );
-    let refused: Vec<String> = (1..12)
-        .filter(|&n| figures.refused[n] > 0)
-        .map(|n| format!("{} of number {}", figures.refused[n], n))
-        .collect();
-    if !refused.is_empty() {
-        println!("  refused: {}", refused.join(", "));
+/// Tells the figures. Of the five, one that lacks some of its ground is no comparison, and ends all.
+fn tell(what: &str, figures: &Figures, began: Instant, ground: Option<&Ground>) {
+    let seconds = began.elapsed().as_secs();
+    println!("{}: {} cases, no difference ({} s)", what, figures.cases, seconds);
+    print!("{}", figures);
+    let lacks = ground.map_or(Vec::new(), |ground| figures.lacking(ground));
+    if !lacks.is_empty() {
+        println!("  not met: {}", lacks.join(", "));
+        exit(1);
     }
 }
 
@@ -221,63 +133,75 @@ fn stop(why: &str) -> ! {
     exit(2);
 }
 
+const FIVE: &str = "random 100000 1 random 100000 2 damaged 100000 1 two three";
+
 fn main() {
-    let mut args = env::args().skip(1);
-    let mut asked = false;
-    while let Some(what) = args.next() {
-        asked = true;
-        let mut figures = Figures::default();
-        let began = Instant::now();
-        let mut number = |name: &str| -> u64 {
-            let word = args.next().unwrap_or_default();
-            word.parse()
-                .unwrap_or_else(|_| stop(&format!("{}: give a {}", what, name)))
-        };
-        match what.as_str() {
-            "random" | "damaged" => {
-                let (count, seed) = (number("count"), number("seed"));
-                for k in 0..count {
-                    let case = if what == "random" {
-                        generate::random(seed, k)
-                    } else {
-                        damage::damaged(seed, k)
-                    };
-                    compare(&case, &mut figures);
-                }
-                tell(&format!("{}, seed {}", what, seed), &figures, began);
-            }
-            "findings" => findings(number("seed")),
-            "show" => {
-                let (count, seed) = (number("count"), number("seed"));
-                for k in 0..count {
-                    let case = generate::random(seed, k);
-                    println!("{}{}", case, probe::run(&case).ended);
-                }
-            }
-            "two" => {
-                small_tables(2, &TWO_GRIDS, &TWO_WEIGHTS, 16, true, &mut figures);
-                tell("every table of two patterns", &figures, began);
-            }
-            "three" => {
-                small_tables(3, &[(2, 2)], &THREE_WEIGHTS, 2, false, &mut figures);
-                tell("every table of three patterns, 2 by 2", &figures, began);
-            }
-            "file" => {
-                let path = args.next().unwrap_or_default();
-                let text = std::fs::read_to_string(&path).unwrap_or_else(|why| stop(&format!("{}: {}", path, why)));
-                let read = cases::read(&text).unwrap_or_else(|why| stop(&format!("{}: {}", path, why)));
-                for case in &read {
-                    compare(case, &mut figures);
-                }
-                tell(&path, &figures, began);
-            }
-            _ => {
-                asked = false;
-                break;
-            }
-        }
+    if let Err(why) = selftest::passes() {
+        println!("The comparer fails: {}", why);
+        exit(1);
     }
-    if !asked {
-        stop("random COUNT SEED, damaged COUNT SEED, two, three, file PATH, findings SEED, show COUNT SEED");
+    let mut words: Vec<String> = env::args().skip(1).collect();
+    let five = words.is_empty();
+    if five {
+        words = FIVE.split(' ').map(str::to_string).collect();
+    }
+    let mut words = words.into_iter();
+    while let Some(what) = words.next() {
+        asked(&what, &mut words, five);
+    }
+}
+
+/// One comparison, with the words that belong to it.
+fn asked(what: &str, words: &mut dyn Iterator<Item = String>, five: bool) {
+    let began = Instant::now();
+    let mut figures = Figures::default();
+    let mut number = |name: &str| -> u64 {
+        let word = words.next().unwrap_or_default();
+        word.parse()
+            .unwrap_or_else(|_| stop(&format!("{}: give a {}", what, name)))
+    };
+    let (name, ground) = match what {
+        "random" => {
+            let (count, seed) = (number("count"), number("seed"));
+            (0..count).for_each(|k| compare(&generate::random(seed, k), &mut figures));
+            (format!("random, seed {}", seed), figures::RANDOM)
+        }
+        "damaged" => {
+            let (count, seed) = (number("count"), number("seed"));
+            (0..count).for_each(|k| compare(&damage::damaged(seed, k), &mut figures));
+            (format!("damaged, seed {}", seed), figures::DAMAGED)
+        }
+        "two" => {
+            small_tables(2, &TWO_GRIDS, &TWO_WEIGHTS, 16, true, &mut figures);
+            ("every table of two patterns".to_string(), figures::TWO)
+        }
+        "three" => {
+            small_tables(3, &[(2, 2)], &THREE_WEIGHTS, 2, false, &mut figures);
+            ("every table of three patterns, 2 by 2".to_string(), figures::THREE)
+        }
+        "file" => {
+            let path = words.next().unwrap_or_default();
+            file(&path, &mut figures);
+            return tell(&path, &figures, began, None);
+        }
+        "findings" => return findings(number("seed")),
+        "show" => return show(number("count"), number("seed")),
+        _ => stop("random COUNT SEED, damaged COUNT SEED, two, three, file PATH, findings SEED, show COUNT SEED"),
+    };
+    tell(&name, &figures, began, if five { Some(&ground) } else { None });
+}
+
+fn file(path: &str, figures: &mut Figures) {
+    let text = std::fs::read_to_string(path).unwrap_or_else(|why| stop(&format!("{}: {}", path, why)));
+    let read = cases::read(&text).unwrap_or_else(|why| stop(&format!("{}: {}", path, why)));
+    for case in &read {
+        compare(case, figures);
+    }
+}
+
+fn show(count: u64, seed: u64) {
+    for k in 0..count {
+        let case = generate::random(seed, k);
+        println!("{}{}", case, probe::run(&case).ended);
     }
 }
