@@ -4,7 +4,8 @@
 Run from the repository's root. What the streams are, crates/recorded/src/main.rt and crates/replay/src/main.rt say. Every answer is as
 recorded, but for what is left of starting domains where propagation is not refused: the greatest consistent subset, computed here from its
 definition; for what a sheet of refusals.txt says, which is taken from its bytes here; for calls with a slice of a wrong length, which are 5;
-for runs at the size that replay takes, in which nothing propagates, so that the noise and the words say all; and for what only replay refuses."""
+for runs at the size that replay takes, in which nothing propagates, so that the noise and the words say all; for sheets longer than any that is
+accepted, which are made to be refused; and for what only replay refuses."""
 from struct import pack, unpack
 
 RUN, REFUSAL, PROPAGATE, LOOKUP, WRITE, READ = range(6)
@@ -168,7 +169,7 @@ def read(case, number, off=[0, 0, 0, 0]):
 
 # ---- replay: sheets with noise and words
 
-LONGEST, LARGEST, TOO_LARGE = 41376, 4096, 65535
+HELD, LARGEST, TOO_LARGE = 90272, 4096, 65535
 
 
 def u16s(ns):
@@ -214,8 +215,13 @@ def read_only(case):
     """A sheet alone, and its answer: its refusal. One that is accepted is lent noise for its one cell, and its forbids decide that."""
     sheet, number = sheet_bytes(case), int(case["refused"])
     if number:
-        return replayed(sheet, [], []), u16s([TOO_LARGE if len(sheet) > LONGEST else number])
+        return replayed(sheet, [], []), u16s([number])
     return replayed(sheet, [1], []), u16s([0]) + record(5, u16s([0, 0]) + pack("<Q", 1))
+
+
+def longest(count):
+    """A sheet of so many patterns that is as long as one can be: 255 ids in each list, and 4,096 forbids."""
+    return record(1, u16s([count] + [1] * count)) + record(2, bytes([255] + [0] * 255) * 4 * count) + record(3, u16s([1, 1, 0])) + record(4, bytes(6 * 4096))
 
 
 def free(count, width, height):
@@ -247,7 +253,9 @@ def replay():
     whole = next(c for c in runs if c.get("end", "2")[0] != "2" and numbers(c, "words"))
     sheet, noise, words = sheet_bytes(whole), numbers(whole, "noise"), numbers(whole, "words")
     cases += [(replayed(sheet, noise, words + [7] * 5000), done(whole)), (replayed(sheet, noise * 5000, words), u16s([5]))]
-    cases += [(replayed(bytes(LONGEST + 1), noise, words), u16s([TOO_LARGE])), (replayed(sheet, noise, words), done(whole))]
+    assert len(longest(64)) == HELD
+    cases += [(replayed(longest(64), noise, words), u16s([6])), (replayed(longest(65), noise, words), u16s([3]))]
+    cases += [(replayed(bytes(HELD + 1), noise, words), u16s([10])), (replayed(sheet, noise, words), done(whole))]
     # at the size that is taken, 4,096 cells times patterns, and just past it, which is told before the noise is looked at
     cases += [chosen(free(4, 32, 32)), chosen(free(4, 32, 32), left=1), chosen(free(64, 8, 8)), (replayed(sheet_bytes(free(41, 10, 10)), [], []), u16s([TOO_LARGE]))]
     # the stream ends in a case: in its last word, of which three bytes are there

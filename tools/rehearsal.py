@@ -31,6 +31,11 @@ def words(*ns):
     return pack(f"<{len(ns)}I", *ns)
 
 
+def longest(count):
+    """A sheet of so many patterns that is as long as one can be: 255 ids in each list, and 4,096 forbids."""
+    return sheet([1] * count, [bytes(255)] * (4 * count), 1, 1, 0, [(0, 0, 0)] * 4096)
+
+
 def alone(count, width, height):
     """Each pattern stands beside itself alone."""
     return sheet([1] * count, [[p] for p in range(count) for _ in range(4)], width, height, 3)
@@ -60,8 +65,8 @@ FILES = {
     "empty.sheet": b"",
     "large.sheet": free([1] * 5, 32, 32, 0),
     "large-and-wrong.sheet": sheet([1] * 5, FALLING, 32, 32, 0),
-    "41376.sheet": bytes(41376),
-    "41377.sheet": bytes(41377),
+    "90272.sheet": longest(64),
+    "91298.sheet": longest(65),
     "eight.noise": words(5, 3, 8, 1, 9, 2, 7, 4),
     "seven.noise": words(5, 3, 8, 1, 9, 2, 7),
     "empty.noise": b"",
@@ -140,8 +145,9 @@ free.sheet long.noise eight.words refused.result
 --seed 3 cut.sheet refused.result
 --seed 3 more.sheet refused.result
 --seed 3 empty.sheet refused.result
---seed 3 41376.sheet refused.result
---seed 3 41377.sheet refused.result
+--seed 3 90272.sheet refused.result
+--seed 3 91298.sheet refused.result
+--seed 3 /dev/zero refused.result
 --seed 3 4100.sheet refused.result
 --seed 3 large.sheet refused.result
 --seed 3 large-and-wrong.sheet refused.result

@@ -1,10 +1,11 @@
--- What a reader may rely on: no sheet that the library takes is called too long or, up to 4,096 cells times patterns, too large; what a case comes to is
+-- What a reader may rely on: no sheet that the library takes is refused or, up to 4,096 cells times patterns, called too large; what a case comes to is
 -- what `sheet::run_result` says of it; and no second outcome fits the contracts of `measure` and `lay`.
 -- Assumes nothing.
 use mathlib.Core.Bool.{false}
 use mathlib.Core.List.{List, [], _∷_}
 use mathlib.Core.Path.{_≡_, refl, sym, ap, _∙_}
 use Prim.Native.Nat.{ℕ, _+_, _*_, _≤_}
+use native.Mathlib.Omega.{arith}
 use lib.ListN.{length}
 use borrow.Author.Tests.{eq-eqb}
 use Rattle.records.specs.Laying.{over}
@@ -25,6 +26,7 @@ use Rattle.records.proofs.RecordLaws.{Bytes}
 use Rattle.refusals.proofs.RefusalLaws.{first-none, passed-first, first-passed}
 use Rattle.sheet.proofs.CalledLaws.{sheet-content}
 use Rattle.sheet.proofs.RoundLaws.{sheet-passed, read-longest}
+use Rattle.bounded.proofs.ToldLaws.{told-short}
 use Rattle.bounded.proofs.TakenLaws.{taken-sheet, lay-sheet}
 use Rattle.bounded.proofs.RunLaws.{result-ran}
 use Rattle.bounded.proofs.KeptLaws.{within, taken-runnable}
@@ -50,7 +52,9 @@ module _ (b : List ℕ) (bytes : Bytes b) (l : Lent) (accepted : firstOf (readTe
   -- and is taken by the programs up to 4,096 cells times patterns
   pub accepted-taken : cells (sheetIn b .grid) * length (sheetIn b .weights) ≤ 4096 → takenOf b ≡ answer (sheetIn b)
   unfolding measured
-  accepted-taken h = taken-sheet b (read-longest b bytes l accepted) read-taken (measured (sheetIn b)) refl h
+  accepted-taken h =
+      let short : length b ≤ 90272 = omega (arith, read-longest b bytes l accepted) in
+      taken-sheet b (told-short b short ∙ read-taken) (measured (sheetIn b)) refl h
 
 -- ---- what a case comes to
 
@@ -75,19 +79,12 @@ unfolding takenTold
 takenTold-injective (taken.Sheet g) (taken.Sheet h) e = ap taken.Sheet (cc)
 takenTold-injective (taken.Sheet g) (taken.Refused n) e = cc
 takenTold-injective (taken.Sheet g) taken.TooLarge e = cc
-takenTold-injective (taken.Sheet g) taken.TooLong e = cc
 takenTold-injective (taken.Refused n) (taken.Sheet g) e = cc
 takenTold-injective (taken.Refused n) (taken.Refused k) e = ap taken.Refused (cc)
 takenTold-injective (taken.Refused n) taken.TooLarge e = cc
-takenTold-injective (taken.Refused n) taken.TooLong e = cc
 takenTold-injective taken.TooLarge (taken.Sheet g) e = cc
 takenTold-injective taken.TooLarge (taken.Refused n) e = cc
 takenTold-injective taken.TooLarge taken.TooLarge e = refl
-takenTold-injective taken.TooLarge taken.TooLong e = cc
-takenTold-injective taken.TooLong (taken.Sheet g) e = cc
-takenTold-injective taken.TooLong (taken.Refused n) e = cc
-takenTold-injective taken.TooLong taken.TooLarge e = cc
-takenTold-injective taken.TooLong taken.TooLong e = refl
 
 pub measure-unique : (b : List ℕ) (x y : Taken) → takenTold x ≡ measureOf b → takenTold y ≡ measureOf b → x ≡ y
 measure-unique b x y e f = takenTold-injective x y (e ∙ sym f)
@@ -99,19 +96,12 @@ laidTold-injective (laid.Ended end used size) (laid.Ended end′ used′ size′
     λ j. laid.Ended (p j .end) (p j .used) (p j .size)
 laidTold-injective (laid.Ended end used size) (laid.Refused k) e = cc
 laidTold-injective (laid.Ended end used size) laid.TooLarge e = cc
-laidTold-injective (laid.Ended end used size) laid.TooLong e = cc
 laidTold-injective (laid.Refused n) (laid.Ended end used size) e = cc
 laidTold-injective (laid.Refused n) (laid.Refused k) e = ap laid.Refused (cc)
 laidTold-injective (laid.Refused n) laid.TooLarge e = cc
-laidTold-injective (laid.Refused n) laid.TooLong e = cc
 laidTold-injective laid.TooLarge (laid.Ended end used size) e = cc
 laidTold-injective laid.TooLarge (laid.Refused k) e = cc
 laidTold-injective laid.TooLarge laid.TooLarge e = refl
-laidTold-injective laid.TooLarge laid.TooLong e = cc
-laidTold-injective laid.TooLong (laid.Ended end used size) e = cc
-laidTold-injective laid.TooLong (laid.Refused k) e = cc
-laidTold-injective laid.TooLong laid.TooLarge e = cc
-laidTold-injective laid.TooLong laid.TooLong e = refl
 
 pub lay-unique : (b noise words domains out : List ℕ) (x y : Laid) (d₁ d₂ o₁ o₂ : List ℕ) → outcome (laidTold x) d₁ o₁ ≡ laidAt (laidOf b noise words) domains out
     → outcome (laidTold y) d₂ o₂ ≡ laidAt (laidOf b noise words) domains out → (x ≡ y) × (d₁ ≡ d₂) × (o₁ ≡ o₂)

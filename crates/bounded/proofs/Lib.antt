@@ -1,3 +1,4 @@
+pub mod ToldLaws
 pub mod ReadLaws
 pub mod TakenLaws
 pub mod RunLaws

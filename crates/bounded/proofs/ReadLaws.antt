@@ -1,4 +1,4 @@
--- Laws of a sheet that is read into memory for every one: its own refusals are all that is left, and what stands where it was read.
+-- Laws of a sheet that is read into memory for every one of up to 64 patterns: its own refusals are all that is left, and what stands where it was read.
 -- Assumes nothing.
 use mathlib.Core.Bool.{Bool, true, false, not}
 use mathlib.Core.List.{List, _∷_, _++_}
@@ -6,14 +6,13 @@ use mathlib.Core.Path.{_≡_, refl, sym, ap, _∙_}
 use Prim.Native.Nat.{ℕ, zero, suc, _+_, _-_, _*_, _≤_, _<_}
 use native.Mathlib.Omega.{arith}
 use lib.ListN.{length, take, drop, length-take, length-drop, take-append-drop}
-use borrow.Author.Tests.{lt-ltb, le-ltb, ne-eqb, eq-eqb, not-false}
+use borrow.Author.Tests.{le-ltb, eq-eqb, not-false}
 use Rattle.records.specs.Laying.{over}
 use Rattle.records.specs.Numbers.{u32At}
 use Rattle.records.specs.Records.{payloadOf, restOf}
 use Rattle.refusals.specs.declared.Refusal.{Refusal}
 use Rattle.refusals.specs.declared.Refusal.the-variants.{BadSheet, BadCount}
-use Rattle.refusals.specs.Refusals.{Test, Asked, refused, answer, number, firstOf}
-use Rattle.adjacency.specs.Checks.{badCount}
+use Rattle.refusals.specs.Refusals.{Asked, refused, answer, number, firstOf}
 use Rattle.layout.specs.Sheet.{Sheet}
 use Rattle.layout.specs.Tables.{tableOf}
 use Rattle.layout.specs.Reading.{fromLists, wellFormed, sheetIn}
@@ -21,14 +20,15 @@ use Rattle.layout.specs.Lending.{Lent, lent, filled}
 use Rattle.sheet.specs.declared.Measures.{Measures}
 use Rattle.sheet.specs.declared.SizesAnswer.{SizesAnswer}
 use Rattle.sheet.specs.Called.{scalarTests, contentTests, sheetTests, formTest, measured, sizesTold, sizesAsked, readMisfit, readTests, ReadOutcome, readOutcome, readAt, readCalled}
-use Rattle.bounded.specs.Laid.{sheetRefusal, Reads}
+use Rattle.bounded.specs.Laid.{sheetRefusal, longRefusal, toldRefusal, Reads}
 use Rattle.records.proofs.LayingLaws.{over-whole}
-use Rattle.refusals.proofs.RefusalLaws.{number-positive, first-here, first-next, first-passed}
+use Rattle.refusals.proofs.RefusalLaws.{number-positive, first-next, first-passed}
 use Rattle.layout.proofs.ShapeLaws.{Formed, formed}
 use Rattle.layout.proofs.ReadingLaws.{ids-is}
 use Rattle.sheet.proofs.MeasureLaws.{Known, known, Parts, read-parts}
-use Rattle.sheet.proofs.CalledLaws.{sizes-refused, sizes-told, sheet-scalar, scalarTests-is, readMisfit-is}
+use Rattle.sheet.proofs.CalledLaws.{sizes-refused, sizes-told, readMisfit-is}
 use Rattle.sheet.proofs.RoundLaws.{sheet-passed}
+use Rattle.bounded.proofs.ToldLaws.{refusal-form, refusal-next, refusal-many, told-short, told-long, told-none}
 use Rattle.sheet.specs.declared.SizesAnswer.the-variants as sizes
 
 -- ---- what an answer says of the sheet
@@ -43,21 +43,6 @@ within d (answer x) = x
 within d (refused n) = d
 
 module _ (b : List ℕ) where
-  -- the tests of what a sheet says
-  abbrev pub said : List Test
-  said = sheetTests false (tableOf (sheetIn b)) (sheetIn b .weights) (sheetIn b .grid) (sheetIn b .forbids)
-
-  -- bytes that are no sheet are refused first
-  refusal-form : wellFormed b ≡ false → sheetRefusal b ≡ 10
-  unfolding sheetRefusal number
-  refusal-form e = first-here (formTest b) said (ap not e)
-
-  -- of those that are one, the refusals are of what it says
-  pub refusal-next : wellFormed b ≡ true
-      → sheetRefusal b ≡ firstOf said
-  unfolding sheetRefusal
-  refusal-next e = first-next (formTest b) said (ap not e)
-
   pub sizes-none : (l : Lent) {a : SizesAnswer} (r : Refusal) → a ≡ sizes.Refused r → sizesTold a ≡ sizesAsked b → readOutcome (sizesTold (sizes.Refused r)) l ≡ readAt (sheetRefusal b) (sheetIn b) l
   unfolding sizesTold refusalIn readAt number
   sizes-none l r is f = go (wellFormed b) refl
@@ -68,7 +53,7 @@ module _ (b : List ℕ) where
       go : (v : Bool) → wellFormed b ≡ v → readOutcome (sizesTold (sizes.Refused r)) l ≡ readAt (sheetRefusal b) (sheetIn b) l
       go true w = absurd (number-positive r (ap refusalIn (e ∙ sym (sizes-told b w refl))))
       go false w =
-          ap (λ (a : Asked Measures). readOutcome a l) (e ∙ sym (sizes-refused b w)) ∙ ap (λ (n : ℕ). readAt n (sheetIn b) l) (sym (refusal-form w))
+          ap (λ (a : Asked Measures). readOutcome a l) (e ∙ sym (sizes-refused b w)) ∙ ap (λ (n : ℕ). readAt n (sheetIn b) l) (sym (refusal-form b w))
 
   pub sizes-some : {a : SizesAnswer} (m : Measures) → a ≡ sizes.Sheet m → sizesTold a ≡ sizesAsked b → (wellFormed b ≡ true) × (m ≡ measured (sheetIn b))
   unfolding sizesTold refusalIn within number
@@ -83,24 +68,37 @@ module _ (b : List ℕ) where
 
   -- ---- what is told of what was read
 
-  -- a refusal is the sheet's own
-  pub read-number : (l l′ : Lent) {a : SizesAnswer} (r : Refusal) → a ≡ sizes.Refused r → readOutcome (sizesTold a) l′ ≡ readAt (sheetRefusal b) (sheetIn b) l
-      → sheetRefusal b ≡ number r
-  unfolding sizesTold refusalIn readAt
-  read-number l l′ r is e = go (sheetRefusal b) refl (ap (λ (a : SizesAnswer). readOutcome (sizesTold a) l′) (sym is) ∙ e)
+  -- more bytes than a program holds are refused by their first record
+  pub read-long : (l : Lent) → 90272 < length b → {r : Refusal} → r ≡ longRefusal b → readOutcome (sizesTold (sizes.Refused r)) l ≡ readAt (toldRefusal b) (sheetIn b) l
+  unfolding sizesTold readAt
+  read-long l h {r} e = go (number r) (number-positive r) ∙ ap (λ (n : ℕ). readAt n (sheetIn b) l) (ap number e ∙ sym (told-long b h))
     where
-      go : (n : ℕ) → sheetRefusal b ≡ n → readOutcome (refused (number r)) l′ ≡ readAt n (sheetIn b) l → sheetRefusal b ≡ number r
+      go : (n : ℕ) → (n ≡ 0 → ⊥) → readOutcome (refused n) l ≡ readAt n (sheetIn b) l
+      go zero z = absurd (z refl)
+      go (suc n) z = refl
+
+  -- of others, the sheet's own refusal is told
+  pub read-short : (l : Lent) → length b ≤ 90272 → readAt (sheetRefusal b) (sheetIn b) l ≡ readAt (toldRefusal b) (sheetIn b) l
+  read-short l h = ap (λ (n : ℕ). readAt n (sheetIn b) l) (sym (told-short b h))
+
+  -- a refusal is the sheet's own
+  pub read-number : (l l′ : Lent) {a : SizesAnswer} (r : Refusal) → a ≡ sizes.Refused r → readOutcome (sizesTold a) l′ ≡ readAt (toldRefusal b) (sheetIn b) l
+      → toldRefusal b ≡ number r
+  unfolding sizesTold refusalIn readAt
+  read-number l l′ r is e = go (toldRefusal b) refl (ap (λ (a : SizesAnswer). readOutcome (sizesTold a) l′) (sym is) ∙ e)
+    where
+      go : (n : ℕ) → toldRefusal b ≡ n → readOutcome (refused (number r)) l′ ≡ readAt n (sheetIn b) l → toldRefusal b ≡ number r
       go zero q e = absurd (number-positive r (ap (λ (o : ReadOutcome). refusalIn (o .told)) e))
       go (suc n) q e = q ∙ sym (ap (λ (o : ReadOutcome). refusalIn (o .told)) e)
 
   -- an answer says that nothing is refused, how much the sheet holds, and what was read
-  pub read-answer : (l l′ : Lent) {a : SizesAnswer} (m : Measures) → a ≡ sizes.Sheet m → readOutcome (sizesTold a) l′ ≡ readAt (sheetRefusal b) (sheetIn b) l
-      → (sheetRefusal b ≡ 0) × (m ≡ measured (sheetIn b)) × (l′ ≡ filled (sheetIn b) l)
+  pub read-answer : (l l′ : Lent) {a : SizesAnswer} (m : Measures) → a ≡ sizes.Sheet m → readOutcome (sizesTold a) l′ ≡ readAt (toldRefusal b) (sheetIn b) l
+      → (toldRefusal b ≡ 0) × (m ≡ measured (sheetIn b)) × (l′ ≡ filled (sheetIn b) l)
   unfolding sizesTold refusalIn within readAt
-  read-answer l l′ m is e = go (sheetRefusal b) refl (ap (λ (a : SizesAnswer). readOutcome (sizesTold a) l′) (sym is) ∙ e)
+  read-answer l l′ m is e = go (toldRefusal b) refl (ap (λ (a : SizesAnswer). readOutcome (sizesTold a) l′) (sym is) ∙ e)
     where
-      go : (n : ℕ) → sheetRefusal b ≡ n → readOutcome (answer m) l′ ≡ readAt n (sheetIn b) l
-          → (sheetRefusal b ≡ 0) × (m ≡ measured (sheetIn b)) × (l′ ≡ filled (sheetIn b) l)
+      go : (n : ℕ) → toldRefusal b ≡ n → readOutcome (answer m) l′ ≡ readAt n (sheetIn b) l
+          → (toldRefusal b ≡ 0) × (m ≡ measured (sheetIn b)) × (l′ ≡ filled (sheetIn b) l)
       go zero q e = (q, ap (λ (o : ReadOutcome). within m (o .told)) e, ap (λ (o : ReadOutcome). o .lent) e)
       go (suc n) q e = absurd (omega (arith, ap (λ (o : ReadOutcome). refusalIn (o .told)) e))
 
@@ -124,14 +122,10 @@ module _ (b : List ℕ) (m : Measures) (w : wellFormed b ≡ true) (e : m ≡ me
 
   -- over 64 patterns is 3
   pub read-many : (l : Lent) → 64 < m .count → readOutcome (sizesTold (sizes.Refused BadCount)) l ≡ readAt (sheetRefusal b) (sheetIn b) l
-  unfolding sizesTold number readAt tableOf badCount
-  read-many l h =
-      let s = sheetIn b in
-      let bad : badCount (length (s .weights)) ≡ true = rw (ne-eqb (length (s .weights)) 0 (λ z. omega (arith, held .count-same)), lt-ltb 64 (length (s .weights)) (omega (arith, held .count-same))) in
-      let first : 3 ≡ firstOf (scalarTests (length (s .weights)) (s .grid)) = sym (scalarTests-is (length (s .weights)) (s .grid) bad refl refl) in
-      ap (λ (n : ℕ). readAt n s l) (sym (refusal-next b w ∙ sheet-scalar false (tableOf s) (s .weights) (s .grid) (s .forbids) first (λ z. omega arith)))
+  unfolding sizesTold number readAt
+  read-many l h = ap (λ (n : ℕ). readAt n (sheetIn b) l) (sym (refusal-many b w (omega (arith, held .count-same))))
 
-  module _ (short : length b ≤ 41376) (weights offsets ids forbids : List ℕ) (R : Reads weights offsets ids forbids) (few : m .count ≤ 64) where
+  module _ (short : length b ≤ 90272) (weights offsets ids forbids : List ℕ) (R : Reads weights offsets ids forbids) (few : m .count ≤ 64) where
     abbrev part : Lent
     part = lent (take (m .count) weights) (take (4 * m .count + 1) offsets) ids forbids
 
@@ -182,10 +176,11 @@ pub record Stored (b : List ℕ) (m : Measures) (weights offsets ids forbids : L
   pub scalars : firstOf (scalarTests (tableOf (sheetIn b) .count) (sheetIn b .grid)) ≡ 0
   pub content : firstOf (contentTests (tableOf (sheetIn b)) (sheetIn b .weights) (sheetIn b .grid) (sheetIn b .forbids)) ≡ 0
 
-pub stored : (b : List ℕ) (m : Measures) (l : Lent) {weights offsets ids forbids : List ℕ} → sheetRefusal b ≡ 0 → m ≡ measured (sheetIn b)
+pub stored : (b : List ℕ) (m : Measures) (l : Lent) {weights offsets ids forbids : List ℕ} → toldRefusal b ≡ 0 → m ≡ measured (sheetIn b)
     → lent weights offsets ids forbids ≡ filled (sheetIn b) l → Stored b m weights offsets ids forbids
 unfolding sheetRefusal
-stored b m l none e f =
+stored b m l told e f =
+    let none = told-none b told in
     let s = sheetIn b in
     let tests = sheetTests false (tableOf s) (s .weights) (s .grid) (s .forbids) in
     let w : wellFormed b ≡ true = not-false (wellFormed b) (first-passed (formTest b ∷ tests) none .0) in

@@ -19,7 +19,7 @@ use Rattle.layout.specs.Tables.{tableOf}
 use Rattle.layout.specs.Reading.{sheetIn}
 use Rattle.sheet.specs.declared.Measures.{Measures}
 use Rattle.sheet.specs.Called.{measured}
-use Rattle.bounded.specs.Laid.{tooLong, tooLarge, refused, answer, onward, sheetRefusal, large, takenAt, takenOf, groundOf, measureOf, ranOf, laidOf, takenTold, laidTold, runTold, outcome, laidAt, Runnable}
+use Rattle.bounded.specs.Laid.{tooLarge, refused, answer, onward, toldRefusal, large, takenAt, takenOf, groundOf, measureOf, ranOf, laidOf, takenTold, laidTold, runTold, outcome, laidAt, Runnable}
 use Rattle.refusals.proofs.RefusalLaws.{number-positive}
 use Rattle.adjacency.proofs.AcceptedLaws.{counted}
 use Rattle.sheet.proofs.MeasureLaws.{scalars-is, judged-is}
@@ -31,44 +31,31 @@ use Rattle.bounded.specs.declared.inner.Laid.the-variants as laid
 -- ---- the sheet
 
 module _ (b : List ℕ) where
-  pub taken-long : 41376 < length b → takenOf b ≡ tooLong
-  unfolding takenOf
-  taken-long h = rw (lt-ltb 41376 (length b) h)
+  pub taken-refused : (r : Refusal) → toldRefusal b ≡ number r → takenOf b ≡ refused (number r)
+  unfolding takenOf takenAt
+  taken-refused r e = ap (λ (n : ℕ). takenAt n (sheetIn b)) e ∙ go (number r) (number-positive r)
+    where
+      go : (n : ℕ) → (n ≡ 0 → ⊥) → takenAt n (sheetIn b) ≡ refused n
+      go zero z = absurd (z refl)
+      go (suc n) z = refl
 
-  module _ (short : length b ≤ 41376) where
-    pub taken-short : takenOf b ≡ takenAt (sheetRefusal b) (sheetIn b)
-    unfolding takenOf
-    taken-short = rw (le-ltb 41376 (length b) short)
+  -- where nothing is refused
+  module _ (none : toldRefusal b ≡ 0) (m : Measures) (e : m ≡ measured (sheetIn b)) where
+    taken-size : takenOf b ≡ cond (ltb 4096 (m .height * m .width * m .count)) tooLarge (answer (sheetIn b))
+    unfolding takenOf takenAt large measured
+    taken-size =
+        ap (λ (n : ℕ). takenAt n (sheetIn b)) none
+        ∙ ap (λ (x : Measures). cond (ltb 4096 (x .height * x .width * x .count)) tooLarge (answer (sheetIn b))) (sym e)
 
-    pub taken-refused : (r : Refusal) → sheetRefusal b ≡ number r → takenOf b ≡ refused (number r)
-    unfolding takenAt
-    taken-refused r e = taken-short ∙ ap (λ (n : ℕ). takenAt n (sheetIn b)) e ∙ go (number r) (number-positive r)
-      where
-        go : (n : ℕ) → (n ≡ 0 → ⊥) → takenAt n (sheetIn b) ≡ refused n
-        go zero z = absurd (z refl)
-        go (suc n) z = refl
+    pub taken-large : 4096 < m .height * m .width * m .count → takenOf b ≡ tooLarge
+    taken-large h = taken-size ∙ rw (lt-ltb 4096 (m .height * m .width * m .count) h)
 
-    -- where nothing is refused
-    module _ (none : sheetRefusal b ≡ 0) (m : Measures) (e : m ≡ measured (sheetIn b)) where
-      taken-size : takenOf b ≡ cond (ltb 4096 (m .height * m .width * m .count)) tooLarge (answer (sheetIn b))
-      unfolding takenAt large measured
-      taken-size =
-          taken-short ∙ ap (λ (n : ℕ). takenAt n (sheetIn b)) none
-          ∙ ap (λ (x : Measures). cond (ltb 4096 (x .height * x .width * x .count)) tooLarge (answer (sheetIn b))) (sym e)
-
-      pub taken-large : 4096 < m .height * m .width * m .count → takenOf b ≡ tooLarge
-      taken-large h = taken-size ∙ rw (lt-ltb 4096 (m .height * m .width * m .count) h)
-
-      pub taken-sheet : m .height * m .width * m .count ≤ 4096 → takenOf b ≡ answer (sheetIn b)
-      taken-sheet h = taken-size ∙ rw (le-ltb 4096 (m .height * m .width * m .count) h)
+    pub taken-sheet : m .height * m .width * m .count ≤ 4096 → takenOf b ≡ answer (sheetIn b)
+    taken-sheet h = taken-size ∙ rw (le-ltb 4096 (m .height * m .width * m .count) h)
 
 -- ---- each end of `measure`
 
 module _ (b : List ℕ) where
-  pub measure-long : takenOf b ≡ tooLong → takenTold taken.TooLong ≡ measureOf b
-  unfolding takenTold measureOf onward
-  measure-long e = sym (rw e)
-
   pub measure-large : takenOf b ≡ tooLarge → takenTold taken.TooLarge ≡ measureOf b
   unfolding takenTold measureOf onward
   measure-large e = sym (rw e)
@@ -85,10 +72,6 @@ module _ (b : List ℕ) where
 -- ---- each end of `lay`
 
 module _ (b noise words domains out : List ℕ) where
-  pub lay-long : takenOf b ≡ tooLong → outcome (laidTold laid.TooLong) domains out ≡ laidAt (laidOf b noise words) domains out
-  unfolding laidTold laidOf onward laidAt
-  lay-long e = sym (rw e)
-
   pub lay-large : takenOf b ≡ tooLarge → outcome (laidTold laid.TooLarge) domains out ≡ laidAt (laidOf b noise words) domains out
   unfolding laidTold laidOf onward laidAt
   lay-large e = sym (rw e)

@@ -1,13 +1,16 @@
--- What a case, a sheet's bytes with noise and words, comes to in a program: too long, too large, refused, or the end of its run.
+-- What a case, a sheet's bytes with noise and words, comes to in a program: refused, too large, or the end of its run.
 -- Follows docs/RULES.md, "Programs". Assumes nothing.
-use mathlib.Core.Bool.{Bool, false, cond}
+use mathlib.Core.Bool.{Bool, false, cond, _&&_}
 use mathlib.Core.List.{List, _∷_}
 use mathlib.Core.Path.{_≡_}
 use Prim.Native.Nat.{ℕ, zero, suc, _+_, _*_, _≤_}
 use lib.Dec.{ltb, eqb}
 use lib.ListN.{length}
+use Rattle.records.specs.Numbers.{u16At, u32At}
 use Rattle.records.specs.Laying.{over}
-use Rattle.refusals.specs.Refusals.{firstOf, Asked}
+use Rattle.refusals.specs.declared.Refusal.{Refusal}
+use Rattle.refusals.specs.declared.Refusal.the-variants.{BadCount, BadSheet}
+use Rattle.refusals.specs.Refusals.{number, firstOf, Asked}
 use Rattle.adjacency.specs.Tables.{Table}
 use Rattle.grid.specs.Grid.{Grid, cells}
 use Rattle.run.specs.Run.{Given, given, Ended, runOf}
@@ -23,16 +26,14 @@ use Rattle.bounded.specs.declared.inner.Laid.{Laid}
 use Rattle.bounded.specs.declared.inner.Taken.the-variants as taken
 use Rattle.bounded.specs.declared.inner.Laid.the-variants as laid
 
--- what a program tells: that a sheet is longer than any, that it is larger than the program takes, the number of a refusal, or an answer
+-- what a program tells: that a sheet is larger than the program takes, the number of a refusal, or an answer
 pub data Told (A : Type 0) : Type 0 where
-  tooLong : Told A
   tooLarge : Told A
   refused : ℕ → Told A
   answer : A → Told A
 
 -- what follows from an answer, where there is one
 unfoldable pub onward : {A B : Type 0} → Told A → (A → Told B) → Told B
-onward tooLong f = tooLong
 onward tooLarge f = tooLarge
 onward (refused n) f = refused n
 onward (answer x) f = f x
@@ -46,6 +47,21 @@ sheetRefusal b =
     let s = sheetIn b in
     firstOf (formTest b ∷ sheetTests false (tableOf s) (s .weights) (s .grid) (s .forbids))
 
+-- the first record says that it is a P over 64 and as many weights
+unfoldable pub countsMany : List ℕ → Bool
+unfolding u16At u32At
+countsMany b = eqb (u16At b 4) 1 && (eqb (u32At b 0) (4 + 2 * u16At b 6) && ltb 64 (u16At b 6))
+
+-- the refusal of bytes that are more than a program holds, by their first record alone
+unfoldable pub longRefusal : List ℕ → Refusal
+unfolding countsMany
+longRefusal b = cond (countsMany b) BadCount BadSheet
+
+-- the number that a program tells: up to 90,272 bytes, and no sheet of up to 64 patterns has more, the sheet's own
+unfoldable pub toldRefusal : List ℕ → ℕ
+unfolding number longRefusal sheetRefusal
+toldRefusal b = cond (ltb 90272 (length b)) (number (longRefusal b)) (sheetRefusal b)
+
 -- over 4,096 cells times patterns
 unfoldable pub large : Grid → ℕ → Bool
 large g P = ltb 4096 (cells g * P)
@@ -56,10 +72,10 @@ unfolding large
 takenAt zero s = cond (large (s .grid) (length (s .weights))) tooLarge (answer s)
 takenAt (suc n) s = refused (suc n)
 
--- what a sheet's bytes are to a program: over 41,376 no sheet is accepted; then its refusals, and then its size
+-- what a sheet's bytes are to a program: its refusals, and then its size
 unfoldable pub takenOf : List ℕ → Told Sheet
-unfolding takenAt sheetRefusal sheetIn
-takenOf b = cond (ltb 41376 (length b)) tooLong (takenAt (sheetRefusal b) (sheetIn b))
+unfolding takenAt toldRefusal sheetIn
+takenOf b = takenAt (toldRefusal b) (sheetIn b)
 
 -- the grid of a sheet, and how many cells it has
 unfoldable pub groundOf : Grid → Ground
@@ -70,7 +86,6 @@ unfoldable pub takenTold : Taken → Told Ground
 takenTold (taken.Sheet g) = answer g
 takenTold (taken.Refused n) = refused n
 takenTold taken.TooLarge = tooLarge
-takenTold taken.TooLong = tooLong
 
 -- what a call of `measure` comes to
 unfoldable pub measureOf : List ℕ → Told Ground
@@ -103,7 +118,6 @@ unfoldable pub laidTold : Laid → Told Finish
 laidTold (laid.Ended end used size) = answer (finish end used size)
 laidTold (laid.Refused n) = refused n
 laidTold laid.TooLarge = tooLarge
-laidTold laid.TooLong = tooLong
 
 -- what a run's answer on n cells tells
 unfoldable pub runTold : Asked End → ℕ → Told Finish
@@ -125,7 +139,6 @@ unfolding resultOf over
 laidAt (answer e) domains out = outcome (answer (finish (e .end) (e .used) (length (resultOf e)))) (over (e .domains) domains) (over (resultOf e) out)
 laidAt (refused n) domains out = outcome (refused n) domains out
 laidAt tooLarge domains out = outcome tooLarge domains out
-laidAt tooLong domains out = outcome tooLong domains out
 
 -- ---- what code needs
 
@@ -138,9 +151,9 @@ pub record Runnable (t : Table) (weights : List ℕ) (g : Grid) (forbids : List 
   pub few : recordsIn forbids ≤ 4096
   pub small : cells g * t .count ≤ 4096
 
--- room for 64 patterns, as many ids as the longest sheet has bytes, and 4,096 forbids
+-- room for 64 patterns, as many ids as a sheet that is held has bytes, and 4,096 forbids
 pub record Reads (weights offsets ids forbids : List ℕ) : Type 0 where
   pub weights-long : length weights ≡ 64
   pub offsets-long : length offsets ≡ 257
-  pub ids-long : length ids ≡ 41376
+  pub ids-long : length ids ≡ 90272
   pub forbids-long : length forbids ≡ 12288

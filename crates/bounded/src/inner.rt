@@ -7,7 +7,7 @@ use memory::offsets_to_lend;
 use memory::weights_to_lend;
 use sheet::SizesAnswer;
 
-mod memory;
+pub mod memory;
 mod reading;
 mod running;
 
@@ -19,13 +19,11 @@ pub struct Ground {
     pub cells: usize,
 }
 
-// What a sheet is to the programs: one that they take; one that is refused, with the number; one that only the library takes; or bytes that are
-// longer than any sheet that is accepted.
+// What a sheet is to the programs: one that they take; one that is refused, with the number; or one that only the library takes.
 pub enum Taken {
     Sheet(Ground),
     Refused(u32),
     TooLarge,
-    TooLong,
 }
 
 // How a run ended, with the words that it used and the length of its result; or why there was none, as above.
@@ -33,16 +31,12 @@ pub enum Laid {
     Ended(u32, usize, usize),
     Refused(u32),
     TooLarge,
-    TooLong,
 }
 
 // What a sheet is to the programs.
 pub fn measure(sheet: &[u8]) -> Taken
     ensures { λ r. ⌜ takenTold r ≡ measureOf (now (sheet .entry)) ⌝ }
 {
-    if 41376 < sheet.len() {
-        return Taken::TooLong;
-    }
     let mut weights = weights_to_lend();
     let mut offsets = offsets_to_lend();
     let mut ids = memory::ids_to_lend();
@@ -70,9 +64,6 @@ pub fn lay(sheet: &[u8], noise: &[u32], words: &[u32], domains: &mut [u64], out:
     ensures { λ r. ⌜ outcome (laidTold r) (now (domains .exit)) (now (out .exit))
         ≡ laidAt (laidOf (now (sheet .entry)) (now (noise .entry)) (now (words .entry))) (now (domains .entry)) (now (out .entry)) ⌝ }
 {
-    if 41376 < sheet.len() {
-        return Laid::TooLong;
-    }
     let mut weights = weights_to_lend();
     let mut offsets = offsets_to_lend();
     let mut ids = memory::ids_to_lend();

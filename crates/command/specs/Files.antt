@@ -64,10 +64,10 @@ unfoldable pub anyNameless : Names → List ℕ → List ℕ → List ℕ → Li
 anyNameless n sheet noise words result picture =
     nameless (n .result) result || nameless (n .picture) picture || readNameless n sheet noise words
 
--- the number of what is wrong: 10 for a name that is missing, then 7 for names that clash, 0 for nothing
+-- the number of what is wrong: 9 for a name that is missing, then 7 for names that clash, 0 for nothing
 unfoldable pub namesFault : Names → List ℕ → List ℕ → List ℕ → List ℕ → List ℕ → ℕ
 namesFault n sheet noise words result picture =
-    cond (anyNameless n sheet noise words result picture) 10 (cond (clashes sheet noise words result picture) 7 0)
+    cond (anyNameless n sheet noise words result picture) 9 (cond (clashes sheet noise words result picture) 7 0)
 
 -- ---- how many words were read
 

@@ -10,11 +10,9 @@ use text::put_text;
 // Faults that are none of the arguments alone, by number.
 pub const CLASH: usize = 7;
 
-pub const TOO_LONG: usize = 8;
+pub const TOO_LARGE: usize = 8;
 
-pub const TOO_LARGE: usize = 9;
-
-pub const NO_NAME: usize = 10;
+pub const NO_NAME: usize = 9;
 
 // Faults of a file, by number.
 pub const MISSING: usize = 1;
@@ -51,7 +49,7 @@ pub fn put_fault(fault: usize, at: usize, out: &mut [u8]) -> usize
 {
     let a = put_text(b"ocean: ", at, out);
     let b = put_line(
-        b"\n--seed wants a number from 0 to 4294967295 after it\n--svg wants the name of a file after it\nthere is no such option, only these: ocean [--svg FILE] [--seed N] [SHEET [NOISE WORDS] [RESULT]]\nthere are more files than SHEET NOISE WORDS RESULT\na sheet wants its noise and its words, as in: ocean SHEET NOISE WORDS, or a seed, as in: ocean --seed 7 SHEET\nwith --seed there is no noise and no words, as in: ocean --seed 7 SHEET RESULT\nRESULT and the picture want names of their own, and one of them has the name of another file here\nthe sheet is longer than 41,376 bytes, and no sheet that is accepted is\nthis program takes up to 4,096 cells times patterns, and the sheet has more\nthe name of a file is empty, or longer than 4,096 bytes",
+        b"\n--seed wants a number from 0 to 4294967295 after it\n--svg wants the name of a file after it\nthere is no such option, only these: ocean [--svg FILE] [--seed N] [SHEET [NOISE WORDS] [RESULT]]\nthere are more files than SHEET NOISE WORDS RESULT\na sheet wants its noise and its words, as in: ocean SHEET NOISE WORDS, or a seed, as in: ocean --seed 7 SHEET\nwith --seed there is no noise and no words, as in: ocean --seed 7 SHEET RESULT\nRESULT and the picture want names of their own, and one of them has the name of another file here\nthis program takes up to 4,096 cells times patterns, and the sheet has more\nthe name of a file is empty, or longer than 4,096 bytes",
         fault,
         a,
         out,

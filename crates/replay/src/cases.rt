@@ -96,7 +96,7 @@ fn next_in(sheet: &mut [u8], noise: &mut [u8], words: &mut [u8]) -> bool
 
 // Answers the next case, and whether there may be another.
 pub(crate) fn next() -> bool {
-    let mut sheet = stream::inner::sheet_room();
+    let mut sheet = bounded::inner::memory::sheet_to_lend();
     let mut noise = stream::inner::noise_room();
     let mut words = stream::inner::words_room();
     next_in(&mut sheet, &mut noise, &mut words)

@@ -6,7 +6,7 @@
 // The answer is a u16, then the result's record where that is 0:
 //   0 the run is done
 //   1 to 11 the refusal's number: of the sheet, or, where that is taken, 5 for noise that is not a word for each cell
-//   65535 too large for this program: bytes over 41,376, told first, or cells times patterns over 4,096, told after the sheet's own refusals
+//   65535 too large for this program: cells times patterns over 4,096, told after the sheet's refusals and before the noise's
 // A stream that is cut off in a case ends after the last whole one, and standard error says so; one that ends between two cases just ends.
 // Where an answer cannot be written to its end, standard error says so, and nothing more is read.
 mod cases;

@@ -16,28 +16,27 @@ use Rattle.grid.specs.Grid.{cells}
 use Rattle.layout.specs.Sheet.{Sheet}
 use Rattle.layout.specs.Reading.{sheetIn}
 use Rattle.layout.specs.Tables.{tableOf}
+use Rattle.refusals.specs.Refusals.{number}
 use Rattle.sheet.specs.Called.{formTest, sheetTests}
 use Rattle.sheet.specs.Result.{resultOf}
-use Rattle.bounded.specs.Laid.{Told, tooLong, tooLarge, refused, answer, onward, sheetRefusal, large, takenAt, takenOf, ranOf, laidOf, Finish, finish, Outcome, outcome, laidTold, laidAt}
+use Rattle.bounded.specs.Laid.{Told, tooLarge, refused, answer, onward, sheetRefusal, longRefusal, toldRefusal, large, takenAt, takenOf, ranOf, laidOf, Finish, finish, Outcome, outcome, laidTold, laidAt}
 use Rattle.bounded.specs.declared.inner.Laid.{Laid}
-use Rattle.bounded.specs.declared.inner.Laid.the-variants as ends
 use Rattle.stream.specs.Cases.{answerOf}
-use Rattle.refusals.proofs.RefusalLaws.{first-most}
+use Rattle.refusals.proofs.RefusalLaws.{number-most, first-most}
 use Rattle.records.proofs.NumberLaws.{length-u16}
 use Rattle.records.proofs.LayingLaws.{pen-place}
+use Rattle.bounded.specs.declared.inner.Laid.the-variants as ends
 
 -- ---- a refusal's number
 
 -- the number of what is told, 0 where that is none
 numberIn : {A : Type 0} → Told A → ℕ
-numberIn tooLong = 0
 numberIn tooLarge = 0
 numberIn (refused n) = n
 numberIn (answer x) = 0
 
 most-onward : {A B : Type 0} (x : Told A) (f : A → Told B) → numberIn x ≤ 11 → ((a : A) → numberIn (f a) ≤ 11) → numberIn (onward x f) ≤ 11
 unfolding numberIn onward
-most-onward tooLong f h k = omega arith
 most-onward tooLarge f h k = omega arith
 most-onward (refused n) f h k = h
 most-onward (answer x) f h k = k x
@@ -48,9 +47,17 @@ most-own b =
     let s = sheetIn b in
     first-most (formTest b ∷ sheetTests false (tableOf s) (s .weights) (s .grid) (s .forbids))
 
+most-told : (b : List ℕ) → toldRefusal b ≤ 11
+unfolding toldRefusal
+most-told b = go (ltb 90272 (length b))
+  where
+    go : (v : Bool) → cond v (number (longRefusal b)) (sheetRefusal b) ≤ 11
+    go true = number-most (longRefusal b)
+    go false = most-own b
+
 most-taken : (b : List ℕ) → numberIn (takenOf b) ≤ 11
 unfolding numberIn takenOf takenAt
-most-taken b = long (ltb 41376 (length b)) (most-own b)
+most-taken b = at (toldRefusal b) (sheetIn b) (most-told b)
   where
     size : (v : Bool) (s : Sheet) → numberIn (cond v tooLarge (answer s)) ≤ 11
     size true s = omega arith
@@ -59,10 +66,6 @@ most-taken b = long (ltb 41376 (length b)) (most-own b)
     at : (n : ℕ) (s : Sheet) → n ≤ 11 → numberIn (takenAt n s) ≤ 11
     at zero s h = size (large (s .grid) (length (s .weights))) s
     at (suc n) s h = h
-
-    long : (v : Bool) → sheetRefusal b ≤ 11 → numberIn (cond v tooLong (takenAt (sheetRefusal b) (sheetIn b))) ≤ 11
-    long true h = omega arith
-    long false h = at (sheetRefusal b) (sheetIn b) h
 
 most-ran : (i : Given) (ns words : List ℕ) → numberIn (ranOf i ns words) ≤ 11
 unfolding numberIn ranOf
@@ -80,16 +83,14 @@ most-laid b noise words n e =
 
 -- ---- each end
 
--- which of the four is told, and how long the result is
+-- which of the three is told, and how long the result is
 kind : Told Finish → ℕ
-kind tooLong = 1
-kind tooLarge = 2
-kind (refused n) = 3 + n
+kind tooLarge = 1
+kind (refused n) = 2 + n
 kind (answer x) = 0
 
 sizeIn : Told Finish → ℕ
 sizeIn (answer x) = x .size
-sizeIn tooLong = 0
 sizeIn tooLarge = 0
 sizeIn (refused n) = 0
 
@@ -100,7 +101,6 @@ module _ (x : Told Ended) (d o d₀ o₀ : List ℕ) where
   told-ended end used size e = go x e
     where
       go : (x : Told Ended) → outcome (answer (finish end used size)) d o ≡ laidAt x d₀ o₀ → (answerOf x ≡ u16 0 ++ take size o) × (size ≤ length o)
-      go tooLong e = absurd (omega (arith, ap (λ (q : Outcome). kind (q .told)) e))
       go tooLarge e = absurd (omega (arith, ap (λ (q : Outcome). kind (q .told)) e))
       go (refused n) e = absurd (omega (arith, ap (λ (q : Outcome). kind (q .told)) e))
       go (answer r) e =
@@ -116,7 +116,6 @@ module _ (x : Told Ended) (d o d₀ o₀ : List ℕ) where
   told-refused n e = go x e
     where
       go : (x : Told Ended) → outcome (refused n) d o ≡ laidAt x d₀ o₀ → x ≡ refused n
-      go tooLong e = absurd (omega (arith, ap (λ (q : Outcome). kind (q .told)) e))
       go tooLarge e = absurd (omega (arith, ap (λ (q : Outcome). kind (q .told)) e))
       go (refused k) e = ap refused (omega (arith, ap (λ (q : Outcome). kind (q .told)) e))
       go (answer r) e = absurd (omega (arith, ap (λ (q : Outcome). kind (q .told)) e))
@@ -126,18 +125,7 @@ module _ (x : Told Ended) (d o d₀ o₀ : List ℕ) where
   told-large e = go x e
     where
       go : (x : Told Ended) → outcome tooLarge d o ≡ laidAt x d₀ o₀ → x ≡ tooLarge
-      go tooLong e = absurd (omega (arith, ap (λ (q : Outcome). kind (q .told)) e))
       go tooLarge e = refl
-      go (refused k) e = absurd (omega (arith, ap (λ (q : Outcome). kind (q .told)) e))
-      go (answer r) e = absurd (omega (arith, ap (λ (q : Outcome). kind (q .told)) e))
-
-  told-long : outcome tooLong d o ≡ laidAt x d₀ o₀ → x ≡ tooLong
-  unfolding laidAt kind
-  told-long e = go x e
-    where
-      go : (x : Told Ended) → outcome tooLong d o ≡ laidAt x d₀ o₀ → x ≡ tooLong
-      go tooLong e = refl
-      go tooLarge e = absurd (omega (arith, ap (λ (q : Outcome). kind (q .told)) e))
       go (refused k) e = absurd (omega (arith, ap (λ (q : Outcome). kind (q .told)) e))
       go (answer r) e = absurd (omega (arith, ap (λ (q : Outcome). kind (q .told)) e))
 
@@ -166,10 +154,6 @@ module _ (b noise words d o d₀ o₀ : List ℕ) (r : Laid) (e : outcome (laidT
   pub answer-large : r ≡ ends.TooLarge → answerOf (laidOf b noise words) ≡ u16 65535
   unfolding laidTold answerOf
   answer-large is = ap answerOf (told-large (laidOf b noise words) d o d₀ o₀ (came ends.TooLarge is))
-
-  pub answer-long : r ≡ ends.TooLong → answerOf (laidOf b noise words) ≡ u16 65535
-  unfolding laidTold answerOf
-  answer-long is = ap answerOf (told-long (laidOf b noise words) d o d₀ o₀ (came ends.TooLong is))
 
 -- a number that is written is the answer
 pub wrote-number : (x new out : List ℕ) (place k n : ℕ) → x ≡ u16 n → k ≡ n → pen new place ≡ laid (u16 k) (pen out 0)

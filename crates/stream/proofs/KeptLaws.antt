@@ -1,7 +1,7 @@
 -- What is kept of a case suffices: what is answered of memory that has its front is the answer of the whole case.
 -- Follows docs/RULES.md, "Programs". Assumes nothing.
 use mathlib.Core.List.{List}
-use mathlib.Core.Path.{_≡_, refl, sym, ap, _∙_}
+use mathlib.Core.Path.{_≡_, sym, ap, _∙_}
 use Prim.Native.Nat.{ℕ}
 use lib.ListN.{length, take}
 use Rattle.bounded.specs.Laid.{laidOf}
@@ -13,8 +13,8 @@ use Rattle.stream.proofs.WordLaws.{kept-words}
 pub kept-comes : (c : Case) → comesTo (keptOf c) ≡ comesTo c
 unfolding comesTo keptOf
 kept-comes c =
-    ap (λ (l : List ℕ). laidOf (take 41377 (c .sheet)) l (wordsOf (take 4096 (c .words)))) (kept-words 1025 (c .noise))
-    ∙ ap (laidOf (take 41377 (c .sheet)) (take 1025 (wordsOf (c .noise)))) (kept-words 1024 (c .words))
+    ap (λ (l : List ℕ). laidOf (take 90273 (c .sheet)) l (wordsOf (take 4096 (c .words)))) (kept-words 1025 (c .noise))
+    ∙ ap (laidOf (take 90273 (c .sheet)) (take 1025 (wordsOf (c .noise)))) (kept-words 1024 (c .words))
     ∙ kept-suffices (c .sheet) (wordsOf (c .noise)) (wordsOf (c .words))
 
 -- what is kept of one part
@@ -28,7 +28,7 @@ module _ (c : Case) (sheet noise words : List ℕ) (R : Rooms sheet noise words)
   holds-kept : parts (take (length (c .sheet)) sheet) (take (length (c .noise)) noise) (take (length (c .words)) words) ≡ keptOf c
   unfolding keptOf
   holds-kept =
-      let s = front 41377 (c .sheet) sheet (R .sheet-long) has-sheet in
+      let s = front 90273 (c .sheet) sheet (R .sheet-long) has-sheet in
       let n = front 4100 (c .noise) noise (R .noise-long) has-noise in
       let w = front 4096 (c .words) words (R .words-long) has-words in
       λ j. parts (s j) (n j) (w j)

@@ -10,7 +10,7 @@ use Rattle.records.specs.Numbers.{u16, u32At}
 use Rattle.seed.specs.Strips.{wordsIn}
 use Rattle.run.specs.Run.{Ended}
 use Rattle.sheet.specs.Result.{resultOf}
-use Rattle.bounded.specs.Laid.{Told, tooLong, tooLarge, refused, answer, laidOf}
+use Rattle.bounded.specs.Laid.{Told, tooLarge, refused, answer, laidOf}
 use Rattle.stream.specs.declared.inner.Next.{Next}
 use Rattle.stream.specs.declared.inner.Next.the-variants as next
 
@@ -40,23 +40,22 @@ unfoldable pub comesTo : Case → Told Ended
 unfolding laidOf wordsOf
 comesTo c = laidOf (c .sheet) (wordsOf (c .noise)) (wordsOf (c .words))
 
--- the bytes that it is answered: a number, 65535 for what is too long or too large, and 0 with the result's record
+-- the bytes that it is answered: a refusal's number, 65535 for what is too large, and 0 with the result's record
 unfoldable pub answerOf : Told Ended → List ℕ
 unfolding u16 resultOf
-answerOf tooLong = u16 65535
 answerOf tooLarge = u16 65535
 answerOf (refused n) = u16 n
 answerOf (answer e) = u16 0 ++ resultOf e
 
 -- ---- what is kept
 
--- a byte more than the longest sheet has, 1,025 noise words and 1,024 words
+-- 90,273 bytes of a sheet, 1,025 noise words and 1,024 words
 unfoldable pub keptOf : Case → Case
-keptOf c = parts (take 41377 (c .sheet)) (take 4100 (c .noise)) (take 4096 (c .words))
+keptOf c = parts (take 90273 (c .sheet)) (take 4100 (c .noise)) (take 4096 (c .words))
 
 -- room for just that
 pub record Rooms (sheet noise words : List ℕ) : Type 0 where
-  pub sheet-long : length sheet ≡ 41377
+  pub sheet-long : length sheet ≡ 90273
   pub noise-long : length noise ≡ 4100
   pub words-long : length words ≡ 4096
 

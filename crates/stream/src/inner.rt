@@ -8,14 +8,14 @@ ghost use Rattle.records.specs.Numbers.{u16};
 ghost use Rattle.bounded.specs.Laid.{laidOf};
 ghost use Rattle.stream.specs.Cases.{nextOf, parts, comesTo, answerOf, Rooms};
 use bounded::inner::Laid;
+use bounded::inner::memory;
 use records::inner::lay_bytes;
 use records::inner::lay_u16;
 use records::inner::u32_at;
 
-mod memory;
 pub mod sentences;
 
-// What is told of a sheet that is too long or too large.
+// What is told of a sheet that is too large.
 const TOO_LARGE: usize = 65535;
 
 // The lesser of two: of what is sent, as much as there is room for. That it is no more than either follows, and is said for those who lend a part.
@@ -57,23 +57,16 @@ pub fn next_of(got: usize, bytes: &[u8; 4]) -> Next
     Next::Number(narrow(u32_at(bytes, 0)))
 }
 
-// ---- room for what is kept of a case, and for its answer
+// ---- room for what is kept of a case in bytes, but for its sheet, and for its answer
 
-// A byte more than the longest sheet has says that one is too long.
-pub fn sheet_room() -> [u8; 41377]
-    ensures { λ r. ⌜ 41377 ≡ length r ⌝ }
-{
-    [0; 41377]
-}
-
-// A noise word more than the most cells says that there are too many.
+// The bytes of as many noise words as are kept.
 pub fn noise_room() -> [u8; 4100]
     ensures { λ r. ⌜ 4100 ≡ length r ⌝ }
 {
     [0; 4100]
 }
 
-// No run uses more words than there are cells.
+// And of the words.
 pub fn words_room() -> [u8; 4096]
     ensures { λ r. ⌜ 4096 ≡ length r ⌝ }
 {
@@ -122,7 +115,6 @@ fn tell(
         Laid::Ended(_, _, size) => tell_result(size, result, out),
         Laid::Refused(number) => lay_u16(plain(number), out, 0),
         Laid::TooLarge => lay_u16(TOO_LARGE, out, 0),
-        Laid::TooLong => lay_u16(TOO_LARGE, out, 0),
     }
 }
 

@@ -5,16 +5,15 @@ ghost use Rattle.command.specs.Arguments as meaning;
 ghost use Rattle.command.specs.Arguments.{faultOf, Asked};
 use bounded::inner::Ground;
 use bounded::inner::Taken;
+use bounded::inner::memory;
 use command::arguments::Number;
 use command::arguments::Plan;
 use command::files::Names;
 use command::files::Words;
 use command::sentences::CUT;
 use command::sentences::TOO_LARGE;
-use command::sentences::TOO_LONG;
 
 mod files;
-mod memory;
 mod parts;
 mod show;
 
@@ -111,7 +110,6 @@ fn laid(names: Names, told: i32, seed: Number, sheet: &[u8]) {
     match bounded::inner::measure(sheet) {
         Taken::Refused(number) => show::refused(told, number as usize),
         Taken::TooLarge => show::fault(told, TOO_LARGE),
-        Taken::TooLong => show::fault(told, TOO_LONG),
         Taken::Sheet(ground) => match seed {
             Number::Is(n) => laid_from_seed(names, told, n, sheet, ground),
             Number::Not => laid_from_files(names, told, sheet, ground),

@@ -86,7 +86,7 @@ pub(crate) fn lay_in(
     domains: &mut [u64],
     out: &mut [u8],
 ) -> Laid
-    requires { ⌜ (length (now sheet) ≤ 41376) × Reads (now weights) (now offsets) (now ids) (now forbids) × (1024 ≤ length (now domains)) × (8202 ≤ length (now out)) ⌝ }
+    requires { ⌜ Reads (now weights) (now offsets) (now ids) (now forbids) × (1024 ≤ length (now domains)) × (8202 ≤ length (now out)) ⌝ }
     ensures { λ r. ⌜ outcome (laidTold r) (now (domains .exit)) (now (out .exit))
         ≡ laidAt (laidOf (now (sheet .entry)) (now (noise .entry)) (now (words .entry))) (now (domains .entry)) (now (out .entry)) ⌝ }
 {

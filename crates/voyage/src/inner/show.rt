@@ -1,12 +1,11 @@
 // What the person is shown: a chart, a picture, or one sentence.
 use crate::inner::files;
-use crate::inner::memory;
 use crate::inner::parts::domains_of;
 use bounded::inner::Ground;
 use bounded::inner::Laid;
+use bounded::inner::memory;
 use command::files::Names;
 use command::sentences::TOO_LARGE;
-use command::sentences::TOO_LONG;
 use command::sentences::UNWRITTEN;
 use libc::STDOUT_FILENO;
 
@@ -182,7 +181,6 @@ pub(crate) fn run(
     match bounded::inner::lay(sheet, noise, words, &mut domains, &mut bytes) {
         Laid::Refused(number) => refused(told, number as usize),
         Laid::TooLarge => fault(told, TOO_LARGE),
-        Laid::TooLong => fault(told, TOO_LONG),
         Laid::Ended(end, used, length) => laid(
             names,
             told,

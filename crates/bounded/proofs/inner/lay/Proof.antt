@@ -1,14 +1,8 @@
--- `bounded::inner::lay` meets its contract: too long, or as `lay_in` answers.
+-- `bounded::inner::lay` meets its contract: as `lay_in` answers.
 -- Assumes nothing.
-use Rattle.bounded.proofs.TakenLaws.{taken-long, lay-long}
 use borrow.Author.Needs.{needs}
 use Rattle.bounded.proofs.inner.lay.Statement.{statement}
 use Rattle.bounded.proofs.inner.lay.Tie as tie
-
-returns : tie.Need-returns
-returns c =
-    let a = c .before .before .before .before .before .before .args in
-    lay-long (a .sheet .now) (a .noise .now) (a .words .now) (a .domains .now) (a .out .now) (taken-long (a .sheet .now) (c .if1 .taken))
 
 weights-to-lend-requires : tie.Need-weights-to-lend-requires
 weights-to-lend-requires c κs = search needs
@@ -43,14 +37,13 @@ same-length c = search needs
 same-length-2 : tie.Need-same-length-2
 same-length-2 c = search needs
 
-returns-2 : tie.Need-returns-2
-returns-2 c = search needs
+returns : tie.Need-returns
+returns c = search needs
 
 pub lay-spec : {M : Type 1} → statement M
 lay-spec =
     tie.close
     (tie.spec
-    returns
     weights-to-lend-requires
     offsets-to-lend-requires
     ids-to-lend-requires
@@ -62,4 +55,4 @@ lay-spec =
     lay-in-requires
     same-length
     same-length-2
-    returns-2)
+    returns)

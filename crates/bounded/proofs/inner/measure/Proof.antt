@@ -1,33 +1,30 @@
--- `bounded::inner::measure` meets its contract: too long, refused, too large, or taken.
+-- `bounded::inner::measure` meets its contract: refused, too large, or taken.
 -- Assumes nothing.
 use mathlib.Core.Path.{_≡_}
 use native.Mathlib.Nat.{mul-le-mul}
 use native.Mathlib.Omega.{arith}
+use borrow.Author.Needs.{needs}
 use Rattle.layout.specs.Reading.{sheetIn}
 use Rattle.layout.specs.Lending.{lent, filled}
 use Rattle.sheet.specs.Called.{measured}
-use Rattle.bounded.specs.Laid.{sheetRefusal}
+use Rattle.bounded.specs.Laid.{toldRefusal}
 use Rattle.bounded.proofs.ReadLaws.{read-number, read-answer, Stored, stored}
-use Rattle.bounded.proofs.TakenLaws.{taken-long, taken-refused, taken-large, taken-sheet, measure-long, measure-large, measure-refused-by, measure-sheet, read-sides}
-use borrow.Author.Needs.{needs}
+use Rattle.bounded.proofs.TakenLaws.{taken-refused, taken-large, taken-sheet, measure-large, measure-refused-by, measure-sheet, read-sides}
 use Rattle.bounded.proofs.inner.measure.Statement.{statement}
 use Rattle.bounded.proofs.inner.measure.Tie as tie
 
 -- what was read, where nothing was refused
-answered : (c : tie.After-struct-known) → let b = c .before .before .before .before .before .before .before .before .before .before .before .before .before .before .before .before .before .before .before .args .sheet .now in
+answered : (c : tie.After-struct-known) → let b = c .before .before .before .before .before .before .before .before .before .before .before .before .before .before .before .before .before .before .args .sheet .now in
     let last = c .before .before .before .before .before .before .before .before .read-in .last in
-    (sheetRefusal b ≡ 0) × (c .before .before .m .given .0 .0 ≡ measured (sheetIn b))
+    (toldRefusal b ≡ 0) × (c .before .before .m .given .0 .0 ≡ measured (sheetIn b))
     × (lent (last .1 .0) (last .1 .1 .0) (last .1 .1 .1 .0) (last .1 .1 .1 .1 .0) ≡ filled (sheetIn b) (lent (c .before .before .before .before .before .before .before .before .before .before .before .before .before .before .before .before .weights-to-lend .result) (c .before .before .before .before .before .before .before .before .before .before .before .before .before .before .before .offsets-to-lend .result) (c .before .before .before .before .before .before .before .before .before .before .before .before .before .before .ids-to-lend .result) (c .before .before .before .before .before .before .before .before .before .before .before .before .before .forbids-to-lend .result)))
 answered c =
     let last = c .before .before .before .before .before .before .before .before .read-in .last in
-    read-answer (c .before .before .before .before .before .before .before .before .before .before .before .before .before .before .before .before .before .before .before .args .sheet .now) (lent (c .before .before .before .before .before .before .before .before .before .before .before .before .before .before .before .before .weights-to-lend .result) (c .before .before .before .before .before .before .before .before .before .before .before .before .before .before .before .offsets-to-lend .result) (c .before .before .before .before .before .before .before .before .before .before .before .before .before .before .ids-to-lend .result) (c .before .before .before .before .before .before .before .before .before .before .before .before .before .forbids-to-lend .result)) (lent (last .1 .0) (last .1 .1 .0) (last .1 .1 .1 .0) (last .1 .1 .1 .1 .0)) (c .before .before .m .given .0 .0) (c .before .before .m .given .1) (c .before .before .before .before .before .before .before .before .read-in .ensures)
+    read-answer (c .before .before .before .before .before .before .before .before .before .before .before .before .before .before .before .before .before .before .args .sheet .now) (lent (c .before .before .before .before .before .before .before .before .before .before .before .before .before .before .before .before .weights-to-lend .result) (c .before .before .before .before .before .before .before .before .before .before .before .before .before .before .before .offsets-to-lend .result) (c .before .before .before .before .before .before .before .before .before .before .before .before .before .before .ids-to-lend .result) (c .before .before .before .before .before .before .before .before .before .before .before .before .before .forbids-to-lend .result)) (lent (last .1 .0) (last .1 .1 .0) (last .1 .1 .1 .0) (last .1 .1 .1 .1 .0)) (c .before .before .m .given .0 .0) (c .before .before .m .given .1) (c .before .before .before .before .before .before .before .before .read-in .ensures)
 
 held : (c : tie.After-struct-known) → let last = c .before .before .before .before .before .before .before .before .read-in .last in
-    Stored (c .before .before .before .before .before .before .before .before .before .before .before .before .before .before .before .before .before .before .before .args .sheet .now) (c .before .before .m .given .0 .0) (last .1 .0) (last .1 .1 .0) (last .1 .1 .1 .0) (last .1 .1 .1 .1 .0)
-held c = stored (c .before .before .before .before .before .before .before .before .before .before .before .before .before .before .before .before .before .before .before .args .sheet .now) (c .before .before .m .given .0 .0) (lent (c .before .before .before .before .before .before .before .before .before .before .before .before .before .before .before .before .weights-to-lend .result) (c .before .before .before .before .before .before .before .before .before .before .before .before .before .before .before .offsets-to-lend .result) (c .before .before .before .before .before .before .before .before .before .before .before .before .before .before .ids-to-lend .result) (c .before .before .before .before .before .before .before .before .before .before .before .before .before .forbids-to-lend .result)) (answered c .0) (answered c .1) (answered c .2)
-
-returns : tie.Need-returns
-returns c = measure-long (c .before .before .args .sheet .now) (taken-long (c .before .before .args .sheet .now) (c .if1 .taken))
+    Stored (c .before .before .before .before .before .before .before .before .before .before .before .before .before .before .before .before .before .before .args .sheet .now) (c .before .before .m .given .0 .0) (last .1 .0) (last .1 .1 .0) (last .1 .1 .1 .0) (last .1 .1 .1 .1 .0)
+held c = stored (c .before .before .before .before .before .before .before .before .before .before .before .before .before .before .before .before .before .before .args .sheet .now) (c .before .before .m .given .0 .0) (lent (c .before .before .before .before .before .before .before .before .before .before .before .before .before .before .before .before .weights-to-lend .result) (c .before .before .before .before .before .before .before .before .before .before .before .before .before .before .before .offsets-to-lend .result) (c .before .before .before .before .before .before .before .before .before .before .before .before .before .before .ids-to-lend .result) (c .before .before .before .before .before .before .before .before .before .before .before .before .before .forbids-to-lend .result)) (answered c .0) (answered c .1) (answered c .2)
 
 weights-to-lend-requires : tie.Need-weights-to-lend-requires
 weights-to-lend-requires c κs = search needs
@@ -66,35 +63,34 @@ enum-known-m : tie.Need-enum-known-m
 enum-known-m c = search needs
 
 mul-cells : tie.Need-mul-cells
-mul-cells c = omega (arith, read-sides (c .before .before .before .before .before .before .before .before .before .before .before .before .before .before .before .before .before .before .before .args .sheet .now) (c .before .before .m .given .0 .0) (answered c .1) (held c) .1 .few)
+mul-cells c = omega (arith, read-sides (c .before .before .before .before .before .before .before .before .before .before .before .before .before .before .before .before .before .before .args .sheet .now) (c .before .before .m .given .0 .0) (answered c .1) (held c) .1 .few)
 
-mul-if2 : tie.Need-mul-if2
-mul-if2 c = omega (arith, mul-le-mul (read-sides (c .before .before .before .before .before .before .before .before .before .before .before .before .before .before .before .before .before .before .before .before .args .sheet .now) (c .before .before .before .m .given .0 .0) (answered (c .before) .1) (held (c .before)) .1 .few) (read-sides (c .before .before .before .before .before .before .before .before .before .before .before .before .before .before .before .before .before .before .before .before .args .sheet .now) (c .before .before .before .m .given .0 .0) (answered (c .before) .1) (held (c .before)) .0))
+mul-if1 : tie.Need-mul-if1
+mul-if1 c = omega (arith, mul-le-mul (read-sides (c .before .before .before .before .before .before .before .before .before .before .before .before .before .before .before .before .before .before .before .args .sheet .now) (c .before .before .before .m .given .0 .0) (answered (c .before) .1) (held (c .before)) .1 .few) (read-sides (c .before .before .before .before .before .before .before .before .before .before .before .before .before .before .before .before .before .before .before .args .sheet .now) (c .before .before .before .m .given .0 .0) (answered (c .before) .1) (held (c .before)) .0))
+
+returns : tie.Need-returns
+returns c =
+    let b = c .before .before .before .before .before .before .before .before .before .before .before .before .before .before .before .before .before .before .before .before .args .sheet .now in
+    measure-large b (taken-large b (answered (c .before .before) .0) (c .before .before .before .before .m .given .0 .0) (answered (c .before .before) .1) (c .if1 .taken))
 
 returns-2 : tie.Need-returns-2
 returns-2 c =
-    let b = c .before .before .before .before .before .before .before .before .before .before .before .before .before .before .before .before .before .before .before .before .before .args .sheet .now in
-    measure-large b (taken-large b (c .before .before .before .before .before .before .before .before .before .before .before .before .before .before .before .before .before .before .before .if1 .left) (answered (c .before .before) .0) (c .before .before .before .before .m .given .0 .0) (answered (c .before .before) .1) (c .if2 .taken))
-
-returns-3 : tie.Need-returns-3
-returns-3 c =
-    let b = c .before .before .before .before .before .before .before .before .before .before .before .before .before .before .before .before .before .before .before .args .sheet .now in
+    let b = c .before .before .before .before .before .before .before .before .before .before .before .before .before .before .before .before .before .before .args .sheet .now in
     let last = c .before .before .before .before .before .before .before .before .read-in .last in
     let r = c .before .before .refusal .given .0 .0 in
     let first = read-number b (lent (c .before .before .before .before .before .before .before .before .before .before .before .before .before .before .before .before .weights-to-lend .result) (c .before .before .before .before .before .before .before .before .before .before .before .before .before .before .before .offsets-to-lend .result) (c .before .before .before .before .before .before .before .before .before .before .before .before .before .before .ids-to-lend .result) (c .before .before .before .before .before .before .before .before .before .before .before .before .before .forbids-to-lend .result)) (lent (last .1 .0) (last .1 .1 .0) (last .1 .1 .1 .0) (last .1 .1 .1 .1 .0)) r (c .before .before .refusal .given .1) (c .before .before .before .before .before .before .before .before .read-in .ensures) in
-    measure-refused-by b (c .number .ensures) (taken-refused b (c .before .before .before .before .before .before .before .before .before .before .before .before .before .before .before .before .before .if1 .left) r first)
+    measure-refused-by b (c .number .ensures) (taken-refused b r first)
 
-returns-4 : tie.Need-returns-4
-returns-4 c =
-    let b = c .before .before .before .before .before .before .before .before .before .before .before .before .before .before .before .before .before .before .before .before .before .args .sheet .now in
+returns-3 : tie.Need-returns-3
+returns-3 c =
+    let b = c .before .before .before .before .before .before .before .before .before .before .before .before .before .before .before .before .before .before .before .before .args .sheet .now in
     let m = c .before .before .before .before .m .given .0 .0 in
-    measure-sheet b m (taken-sheet b (c .before .before .before .before .before .before .before .before .before .before .before .before .before .before .before .before .before .before .before .if1 .left) (answered (c .before .before) .0) m (answered (c .before .before) .1) (c .if2 .left)) (answered (c .before .before) .1)
+    measure-sheet b m (taken-sheet b (answered (c .before .before) .0) m (answered (c .before .before) .1) (c .if1 .left)) (answered (c .before .before) .1)
 
 pub measure-spec : {M : Type 1} → statement M
 measure-spec =
     tie.close
     (tie.spec
-    returns
     weights-to-lend-requires
     offsets-to-lend-requires
     ids-to-lend-requires
@@ -108,7 +104,7 @@ measure-spec =
     number-requires
     enum-known-m
     mul-cells
-    mul-if2
+    mul-if1
+    returns
     returns-2
-    returns-3
-    returns-4)
+    returns-3)

@@ -19,11 +19,11 @@ clash-requires c κs = search needs
 
 returns-2 : tie.Need-returns-2
 unfolding namesFault
-returns-2 c = second-number _ _ 10 7 _ (c .before .before .before .any-unnamed .ensures) (c .before .before .if1 .left) _ (c .before .clash .ensures) (c .if2 .taken)
+returns-2 c = second-number _ _ 9 7 _ (c .before .before .before .any-unnamed .ensures) (c .before .before .if1 .left) _ (c .before .clash .ensures) (c .if2 .taken)
 
 returns-3 : tie.Need-returns-3
 unfolding namesFault
-returns-3 c = no-number _ _ 10 7 _ (c .before .before .before .any-unnamed .ensures) (c .before .before .if1 .left) _ (c .before .clash .ensures) (c .if2 .left)
+returns-3 c = no-number _ _ 9 7 _ (c .before .before .before .any-unnamed .ensures) (c .before .before .if1 .left) _ (c .before .clash .ensures) (c .if2 .left)
 
 pub fault-of-spec : {M : Type 1} → statement M
 fault-of-spec = tie.close (tie.spec any-unnamed-requires returns clash-requires returns-2 returns-3)

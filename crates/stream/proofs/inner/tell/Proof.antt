@@ -7,7 +7,7 @@ use native.Mathlib.Omega.{arith}
 use Rattle.records.specs.Laying.{pen, laid}
 use Rattle.bounded.specs.Laid.{laidOf}
 use Rattle.stream.specs.Cases.{answerOf}
-use Rattle.stream.proofs.CaseLaws.{room-ended, room-refused, answer-ended, answer-refused, answer-large, answer-long, wrote-number}
+use Rattle.stream.proofs.CaseLaws.{room-ended, room-refused, answer-ended, answer-refused, answer-large, wrote-number}
 use borrow.Author.Needs.{needs}
 use Rattle.stream.proofs.inner.tell.Statement.{statement}
 use Rattle.stream.proofs.inner.tell.Tie as tie
@@ -41,12 +41,6 @@ enum-told c = search needs
 
 lay-u16-requires-2 : tie.Need-lay-u16-requires-2
 lay-u16-requires-2 c κs = search needs
-
-enum-told-2 : tie.Need-enum-told-2
-enum-told-2 c = search needs
-
-lay-u16-requires-3 : tie.Need-lay-u16-requires-3
-lay-u16-requires-3 c κs = search needs
 
 same-length : tie.Need-same-length
 same-length c = search needs
@@ -95,21 +89,6 @@ returns-3 c =
     let lay = c .before .before .before .before .before .before .before .before .before .before .lay in
     wrote-number (answerOf (laidOf (a .sheet .now) (a .noise .now) (a .words .now))) (c .before .before .lay-u162 .last .1 .0) (a .out .now) (c .before .before .lay-u162 .result) 65535 65535 (answer-large (a .sheet .now) (a .noise .now) (a .words .now) (lay .last .1 .1 .1 .0) (lay .last .1 .1 .1 .1 .0) (a .domains .now) (a .result .now) (lay .result) (lay .ensures) (c .before .before .before .before .enum-told .given .1)) refl (c .before .before .lay-u162 .ensures)
 
-same-length-10 : tie.Need-same-length-10
-same-length-10 c = search needs
-
-same-length-11 : tie.Need-same-length-11
-same-length-11 c = search needs
-
-same-length-12 : tie.Need-same-length-12
-same-length-12 c = search needs
-
-returns-4 : tie.Need-returns-4
-returns-4 c =
-    let a = c .before .before .before .before .before .before .before .before .before .before .before .before .before .before .before .before .before .before .before .args in
-    let lay = c .before .before .before .before .before .before .before .before .before .before .lay in
-    wrote-number (answerOf (laidOf (a .sheet .now) (a .noise .now) (a .words .now))) (c .before .before .lay-u163 .last .1 .0) (a .out .now) (c .before .before .lay-u163 .result) 65535 65535 (answer-long (a .sheet .now) (a .noise .now) (a .words .now) (lay .last .1 .1 .1 .0) (lay .last .1 .1 .1 .1 .0) (a .domains .now) (a .result .now) (lay .result) (lay .ensures) (c .before .before .before .before .enum-told2 .given .1)) refl (c .before .before .lay-u163 .ensures)
-
 pub tell-spec : {M : Type 1} → statement M
 tell-spec =
     tie.close
@@ -122,8 +101,6 @@ tell-spec =
     lay-u16-requires
     enum-told
     lay-u16-requires-2
-    enum-told-2
-    lay-u16-requires-3
     same-length
     same-length-2
     same-length-3
@@ -135,8 +112,4 @@ tell-spec =
     same-length-7
     same-length-8
     same-length-9
-    returns-3
-    same-length-10
-    same-length-11
-    same-length-12
-    returns-4)
+    returns-3)

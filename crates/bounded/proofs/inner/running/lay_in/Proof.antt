@@ -5,15 +5,15 @@ use Prim.Native.Nat.{_+_, _*_}
 use native.Mathlib.Nat.{mul-le-mul}
 use native.Mathlib.Omega.{arith}
 use lib.ListN.{length}
+use borrow.Author.Needs.{needs}
 use Rattle.run.specs.Run.{Ended}
 use Rattle.layout.specs.Reading.{sheetIn}
 use Rattle.layout.specs.Lending.{lent, filled}
 use Rattle.sheet.specs.Called.{measured}
-use Rattle.bounded.specs.Laid.{Told, sheetRefusal, laidAt}
+use Rattle.bounded.specs.Laid.{Told, toldRefusal, laidAt}
 use Rattle.sheet.proofs.MeasureLaws.{part-fits}
 use Rattle.bounded.proofs.ReadLaws.{read-number, read-answer, Stored, stored}
 use Rattle.bounded.proofs.TakenLaws.{taken-refused, taken-large, taken-sheet, lay-large, lay-refused-by, lay-sheet, read-runnable, read-ran, read-sides}
-use borrow.Author.Needs.{needs}
 use Rattle.bounded.proofs.inner.running.lay_in.Statement.{statement}
 use Rattle.bounded.proofs.inner.running.lay_in.Tie as tie
 
@@ -21,7 +21,7 @@ use Rattle.bounded.proofs.inner.running.lay_in.Tie as tie
 answered : (c : tie.After-struct-known) → let a = c .before .before .before .before .before .before .before .before .before .before .before .before .before .before .before .before .before .before .before .before .before .before .before .before .before .before .args in
     let last = c .before .before .before .before .before .before .before .before .before .before .before .before .read-in .last in
     let m = c .before .before .m .given .0 .0 in
-    (sheetRefusal (a .sheet .now) ≡ 0) × (m ≡ measured (sheetIn (a .sheet .now)))
+    (toldRefusal (a .sheet .now) ≡ 0) × (m ≡ measured (sheetIn (a .sheet .now)))
     × (lent (last .1 .0) (last .1 .1 .0) (last .1 .1 .1 .0) (last .1 .1 .1 .1 .0) ≡ filled (sheetIn (a .sheet .now)) (lent (a .weights .now) (a .offsets .now) (a .ids .now) (a .forbids .now)))
 answered c =
     let a = c .before .before .before .before .before .before .before .before .before .before .before .before .before .before .before .before .before .before .before .before .before .before .before .before .before .before .args in
@@ -65,7 +65,7 @@ same-length-4 c = search needs
 returns : tie.Need-returns
 returns c =
     let a = c .before .before .before .before .before .before .before .before .before .before .before .before .before .before .before .before .before .before .before .before .before .before .before .before .before .before .before .args in
-    lay-large (a .sheet .now) (a .noise .now) (a .words .now) (a .domains .now) (a .out .now) (taken-large (a .sheet .now) (c .before .before .before .before .before .before .before .before .before .before .before .before .before .before .before .before .before .before .before .before .before .before .before .before .before .before .before .pre .0) (answered (c .before) .0) (c .before .before .before .m .given .0 .0) (answered (c .before) .1) (c .if1 .taken))
+    lay-large (a .sheet .now) (a .noise .now) (a .words .now) (a .domains .now) (a .out .now) (taken-large (a .sheet .now) (answered (c .before) .0) (c .before .before .before .m .given .0 .0) (answered (c .before) .1) (c .if1 .taken))
 
 mul-starts : tie.Need-mul-starts
 mul-starts c = omega (arith, read-sides (c .before .before .before .before .before .before .before .before .before .before .before .before .before .before .before .before .before .before .before .before .before .before .before .before .before .before .before .args .sheet .now) (c .before .before .before .m .given .0 .0) (answered (c .before) .1) (held (c .before)) .0)
@@ -103,7 +103,7 @@ slice-aggregate-run-in-4 c = sym (ap length (held (c .before .before .before .be
 run-in-requires : tie.Need-run-in-requires
 run-in-requires c κs =
     let pre = c .before .before .before .before .before .before .before .before .before .before .before .before .before .before .before .before .before .before .before .before .before .before .before .before .before .before .before .before .before .before .before .before .before .before .pre in
-    (read-runnable (c .before .before .before .before .before .before .before .before .before .before .before .before .before .before .before .before .before .before .before .before .before .before .before .before .before .before .before .before .before .before .before .before .before .before .args .sheet .now) (c .before .before .before .before .before .before .before .before .before .before .m .given .0 .0) (answered (c .before .before .before .before .before .before .before .before) .1) (held (c .before .before .before .before .before .before .before .before)) (c .before .before .before .before .before .before .before .if1 .left), pre .2, pre .3)
+    (read-runnable (c .before .before .before .before .before .before .before .before .before .before .before .before .before .before .before .before .before .before .before .before .before .before .before .before .before .before .before .before .before .before .before .before .before .before .args .sheet .now) (c .before .before .before .before .before .before .before .before .before .before .m .given .0 .0) (answered (c .before .before .before .before .before .before .before .before) .1) (held (c .before .before .before .before .before .before .before .before)) (c .before .before .before .before .before .before .before .if1 .left), pre .1, pre .2)
 
 same-length-5 : tie.Need-same-length-5
 same-length-5 c = search needs
@@ -123,7 +123,7 @@ returns-2 c =
     let last = c .before .before .before .before .before .before .before .before .before .before .before .before .read-in .last in
     let r = c .before .before .refusal .given .0 .0 in
     let first = read-number (a .sheet .now) (lent (a .weights .now) (a .offsets .now) (a .ids .now) (a .forbids .now)) (lent (last .1 .0) (last .1 .1 .0) (last .1 .1 .1 .0) (last .1 .1 .1 .1 .0)) r (c .before .before .refusal .given .1) (c .before .before .before .before .before .before .before .before .before .before .before .before .read-in .ensures) in
-    lay-refused-by (a .sheet .now) (a .noise .now) (a .words .now) (a .domains .now) (a .out .now) (c .number .ensures) (taken-refused (a .sheet .now) (c .before .before .before .before .before .before .before .before .before .before .before .before .before .before .before .before .before .before .before .before .before .before .before .before .before .before .pre .0) r first)
+    lay-refused-by (a .sheet .now) (a .noise .now) (a .words .now) (a .domains .now) (a .out .now) (c .number .ensures) (taken-refused (a .sheet .now) r first)
 
 same-length-9 : tie.Need-same-length-9
 same-length-9 c = omega (arith, c .before .before .before .before .before .before .before .before .before .before .before .before .before .before .before .before .before .before .before .before .before .before .before .before .before .read-in .kept .1 .0)
@@ -149,7 +149,7 @@ returns-3 c =
     let m = c .before .before .before .before .before .before .before .before .before .before .before .before .before .before .before .m .given .0 .0 in
     let e = answered (c .before .before .before .before .before .before .before .before .before .before .before .before .before) .1 in
     let ran = read-ran (a .sheet .now) m e (held (c .before .before .before .before .before .before .before .before .before .before .before .before .before)) (a .noise .now) (a .words .now) in
-    let took = taken-sheet (a .sheet .now) (c .before .before .before .before .before .before .before .before .before .before .before .before .before .before .before .before .before .before .before .before .before .before .before .before .before .before .before .before .before .before .before .before .before .before .before .before .before .before .before .pre .0) (answered (c .before .before .before .before .before .before .before .before .before .before .before .before .before) .0) m e (c .before .before .before .before .before .before .before .before .before .before .before .before .if1 .left) in
+    let took = taken-sheet (a .sheet .now) (answered (c .before .before .before .before .before .before .before .before .before .before .before .before .before) .0) m e (c .before .before .before .before .before .before .before .before .before .before .before .before .if1 .left) in
     c .before .before .before .before .run-in .ensures
     ∙ ap (λ (t : Told Ended). laidAt t (a .domains .now) (a .out .now)) (ran ∙ lay-sheet (a .sheet .now) (a .noise .now) (a .words .now) (a .domains .now) (a .out .now) (sheetIn (a .sheet .now)) took)
 
