@@ -6,13 +6,13 @@
 #     NM       what lists the symbols of a library
 #
 # On x86-64 that is gcc and nothing else. On Arm it is Debian's cross compiler (apt-get install gcc-x86-64-linux-gnu libc6-dev-amd64-cross) and
-# the emulator of the kit; programs are linked whole, so that the emulator needs no library. cargo is told the same, and needs the standard
-# library of Rust for x86-64 (rustup target add x86_64-unknown-linux-gnu).
+# the emulator of the kit; programs are linked whole, so that the emulator needs no library, and may lie anywhere in memory. cargo is told the
+# same, and needs the standard library of Rust for x86-64 (rustup target add x86_64-unknown-linux-gnu).
 command -v rt >/dev/null || { echo "the command rt of the Rattle kit is not on the path" >&2; exit 2; }
 if [ "$(uname -m)" = x86_64 ]; then
     CC=${CC:-gcc} STATIC= RUN= NM=nm
 else
-    CC=${CC:-x86_64-linux-gnu-gcc} STATIC=-static NM=x86_64-linux-gnu-nm
+    CC=${CC:-x86_64-linux-gnu-gcc} STATIC=-static-pie NM=x86_64-linux-gnu-nm
     RUN=$(dirname "$(dirname "$(rt doc)")")/on/$(uname -m)/toolchain/bin/qemu-x86_64
     [ -x "$RUN" ] || { echo "the kit has no emulator for x86-64 here: $RUN" >&2; exit 2; }
     export CARGO_BUILD_TARGET=x86_64-unknown-linux-gnu
