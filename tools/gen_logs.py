@@ -1,5 +1,6 @@
 #!/usr/bin/env python3
-"""Writes the two tables of logarithms from the recorded list tools/log2.txt: the code's literals and the definitions' bit patterns.
+"""Writes the two tables of logarithms from the recorded list tools/log2.txt: the code's literals, the first 64 of them
+a second time, and the definitions' bit patterns.
 
 Run from the repository's root. It stops where the list is not 1,024 entries in order, where a literal is not the float of its bits,
 or where an entry is not the binary32 nearest to the logarithm (found with 80 digits)."""
