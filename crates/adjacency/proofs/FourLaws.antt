@@ -8,7 +8,7 @@ use native.Mathlib.Decide.{decLt, ℕ-discrete}
 use native.Mathlib.Nat.{mul-assoc, mul-comm, add-mul, one-mul, mul-one, zero-mul, pow-succ', mul-lt-mul-of-pos-right, div-div-eq-div-mul, div-eq-of-lt, div-one}
 use native.Mathlib.Omega.{arith}
 use lib.Arith.{lt-one}
-use lib.ListN.{length, getD, set, take, length-take}
+use lib.ListN.{length, getD, set, take, replicate, length-take, length-replicate, getD-replicate, List·getD-eq-default}
 use lib.Pow.{pow-pos, pow-add, pow-mono}
 use lib.Seq.{getD-take, getD-set-same, getD-set-other}
 use Rattle.loops.specs.Sums.{sumTo}
@@ -22,6 +22,18 @@ use Rattle.adjacency.proofs.WeightLaws.{weight-past, weightSum-none, we
 
 -- ---- words that share no pattern
 
+double : (k b : ℕ) → b * 2 ^ suc k ≡ b * 2 ^ k * 2
+double k b = ap (λ (x : ℕ). b * x) (pow-succ' 2 k ∙ mul-comm 2 (2 ^ k)) ∙ sym (mul-assoc b (2 ^ k) 2)
+
+halved : (k b : ℕ) → b * 2 ^ suc k / 2 ≡ b * 2 ^ k
+halved k b = omega (arith, double k b)
+
+-- a word that has no pattern below k
+bit-low : (k b p : ℕ) → p < k → bit (b * 2 ^ k) p ≡ 0
+bit-low zero b p h = absurd (omega arith)
+bit-low (suc k) b zero h = omega (arith, bit-zero (b * 2 ^ suc k), double k b)
+bit-low (suc k) b (suc p) h = bit-suc (b * 2 ^ suc k) p ∙ ap (λ (x : ℕ). bit x p) (halved k b) ∙ bit-low k b p (omega arith)
+
 -- a word of k bits beside one that has none of them
 bit-apart : (k a b p : ℕ) → a < 2 ^ k → bit (a + b * 2 ^ k) p ≡ bit a p + bit (b * 2 ^ k) p
 bit-apart zero a b p h =
@@ -30,24 +42,18 @@ bit-apart zero a b p h =
     ap (λ (x : ℕ). bit x p) same ∙ omega (arith, ap (λ (x : ℕ). bit x p) z, bit-none p)
 bit-apart (suc k) a b p h = go (λ p. bit-apart k (a / 2) b p (half-lt k h)) p
   where
-    double : b * 2 ^ suc k ≡ b * 2 ^ k * 2
-    double = ap (λ (x : ℕ). b * x) (pow-succ' 2 k ∙ mul-comm 2 (2 ^ k)) ∙ sym (mul-assoc b (2 ^ k) 2)
-
     low : (x y a : ℕ) → x ≡ y * 2 → (a + x) % 2 ≡ a % 2 + x % 2
     low x y a e = omega arith
 
     half : (x y a : ℕ) → x ≡ y * 2 → (a + x) / 2 ≡ a / 2 + y
     half x y a e = omega arith
 
-    halved : (x y : ℕ) → x ≡ y * 2 → x / 2 ≡ y
-    halved x y e = omega arith
-
     go : ((p : ℕ) → bit (a / 2 + b * 2 ^ k) p ≡ bit (a / 2) p + bit (b * 2 ^ k) p) → (p : ℕ) → bit (a + b * 2 ^ suc k) p ≡ bit a p + bit (b * 2 ^ suc k) p
     go rest zero =
-        bit-zero (a + b * 2 ^ suc k) ∙ low (b * 2 ^ suc k) (b * 2 ^ k) a double ∙ sym (ap₂ (λ (x y : ℕ). x + y) (bit-zero a) (bit-zero (b * 2 ^ suc k)))
+        bit-zero (a + b * 2 ^ suc k) ∙ low (b * 2 ^ suc k) (b * 2 ^ k) a (double k b) ∙ sym (ap₂ (λ (x y : ℕ). x + y) (bit-zero a) (bit-zero (b * 2 ^ suc k)))
     go rest (suc p) =
-        bit-suc (a + b * 2 ^ suc k) p ∙ ap (λ (x : ℕ). bit x p) (half (b * 2 ^ suc k) (b * 2 ^ k) a double) ∙ rest p
-        ∙ sym (ap₂ (λ (x y : ℕ). x + y) (bit-suc a p) (bit-suc (b * 2 ^ suc k) p ∙ ap (λ (x : ℕ). bit x p) (halved (b * 2 ^ suc k) (b * 2 ^ k) double)))
+        bit-suc (a + b * 2 ^ suc k) p ∙ ap (λ (x : ℕ). bit x p) (half (b * 2 ^ suc k) (b * 2 ^ k) a (double k b)) ∙ rest p
+        ∙ sym (ap₂ (λ (x y : ℕ). x + y) (bit-suc a p) (bit-suc (b * 2 ^ suc k) p ∙ ap (λ (x : ℕ). bit x p) (halved k b)))
 
 sum-both : (n : ℕ) (f g : ℕ → ℕ) → sumTo n (λ i. f i + g i) ≡ sumTo n f + sumTo n g
 unfolding sumTo
@@ -91,6 +97,14 @@ module _ (ws : List ℕ) where
       gone : without (alone p) p ≡ 0
       gone = omega (arith, without-set (alone p) p (bit-alone p))
 
+  -- a four past the last pattern
+  four-past : (e : ℕ) → length ws ≤ e / 16 * 4 → weightSum ws (fourOf e) ≡ 0
+  unfolding weightSum fourOf
+  four-past e h =
+      let k = 4 * (e / 16) in
+      ap (λ (x : ℕ). weightSum ws (e % 16 * x)) (sixteen-power (e / 16))
+      ∙ sum-zero (length ws) _ (λ p l. ap (λ (b : ℕ). b * weightOf ws p) (bit-low k (e % 16) p (omega arith)) ∙ zero-mul (weightOf ws p))
+
   -- ---- an entry from one before it
 
   -- a word without pattern, and the last pattern of a four put to the others
@@ -128,13 +142,36 @@ module _ (ws : List ℕ) where
       let back = one-shl 64 last (omega arith) in
       ap (λ (y : ℕ). getD l (e - y) 0 + x) back ∙ omega (arith, four-last e last few named above, before (e - 2 ^ last) (omega (arith, pow-pos last)), is)
 
-  pub four-more : (l : List ℕ) (e x : ℕ) → e < length l → x ≡ weightSum ws (fourOf e)
-      → ((i : ℕ) → i < e → getD l i 0 ≡ weightSum ws (fourOf i)) → (i : ℕ) → i < e + 1 → getD (set l e x) i 0 ≡ weightSum ws (fourOf i)
-  four-more l e x h is before i k =
-      elim (ℕ-discrete i e) [
-        | yes z ↦ rw z (getD-set-same l e x 0 h ∙ is)
-        | no n ↦ getD-set-other l e i x 0 n ∙ before i (omega arith)
-      ]
+  -- ---- entry after entry
+
+  -- the entries below e are right, and nothing is written from there on
+  abbrev pub MadeTo : List ℕ → ℕ → Type 0
+  MadeTo l e = ((i : ℕ) → i < e → getD l i 0 ≡ weightSum ws (fourOf i)) × ((i : ℕ) → e ≤ i → getD l i 0 ≡ 0)
+
+  pub made-none : (n : ℕ) → MadeTo (replicate n 0) 0
+  made-none n = (
+    λ i h. absurd (omega arith),
+    λ i h.
+        elim (decLt i n) [
+          | yes l ↦ getD-replicate n i 0 0 l
+          | no m ↦ List·getD-eq-default (replicate n 0) 0 {n = i} (omega (arith, length-replicate {A = ℕ} n 0))
+        ],
+  )
+
+  pub made-more : (l : List ℕ) (e x : ℕ) → e < length l → x ≡ weightSum ws (fourOf e) → MadeTo l e → MadeTo (set l e x) (e + 1)
+  made-more l e x h is (below, above) = (
+    λ i k.
+        elim (ℕ-discrete i e) [
+          | yes z ↦ rw z (getD-set-same l e x 0 h ∙ is)
+          | no n ↦ getD-set-other l e i x 0 n ∙ below i (omega arith)
+        ],
+    λ i k. getD-set-other l e i x 0 (λ z. omega arith) ∙ above i (omega arith),
+  )
+
+  -- where every pattern is among the fours that are made, all entries are right
+  pub made-all : (l : List ℕ) (e : ℕ) → e % 16 ≡ 0 → 4 * length ws ≤ e → MadeTo l e → (i : ℕ) → getD l i 0 ≡ weightSum ws (fourOf i)
+  made-all l e z h (below, above) i =
+      elim (decLt i e) [ yes k ↦ below i k | no n ↦ above i (omega arith) ∙ sym (four-past i (omega arith)) ]
 
   -- ---- a word by its fours
 
@@ -220,14 +257,14 @@ pub sixteens-most : (P : ℕ) → P ≤ 64 → sixteens P ≤ 256
 unfolding sixteens
 sixteens-most P h = omega arith
 
-pub fours-taken : (ws l : List ℕ) → sixteens (length ws) ≤ length l → ((e : ℕ) → e < sixteens (length ws) → getD l e 0 ≡ weightSum ws (fourOf e))
+pub fours-taken : (ws l : List ℕ) → sixteens (length ws) ≤ length l → ((e : ℕ) → getD l e 0 ≡ weightSum ws (fourOf e))
     → Fours ws (take (sixteens (length ws)) l)
 unfolding sixteens
 fours-taken ws l h each =
     let n = sixteens (length ws) in
     let long : length (take n l) ≡ n = omega (arith, length-take n l) in
     record {
-      each = λ e k. getD-take n l e 0 (omega arith) ∙ each e (omega arith);
+      each = λ e k. getD-take n l e 0 (omega arith) ∙ each e;
       all-there = omega arith;
       in-sixteens = omega arith;
     }

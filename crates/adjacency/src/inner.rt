@@ -100,12 +100,12 @@ fn four_entry(weights: &[u32], sums: &[u16; 256], e: usize) -> u16
     sums[e - (1usize << last)] + weight
 }
 
-// The sums of all fours, to be lent: they are made once, and not at each look. What stands past them is not looked at.
+// The sums of all fours, to be lent: they are made once, and not at each look. A four without a pattern stays 0.
 pub fn four_sums(weights: &[u32]) -> [u16; 256]
     requires { ⌜ (length (now weights) ≤ 64) × (wholeWeight (now weights) ≤ 1024) ⌝ }
     ensures { λ r. ⌜ (256 ≡ length r) × Fours (now (weights .entry)) (take (sixteens (length (now (weights .entry)))) r) ⌝ }
 {
-    let end = sixteens(weights.len());
+    let end = (weights.len() + 3) / 4 * 16;
     let mut sums = [0u16; 256];
     let mut e = 0;
     while e < end {
