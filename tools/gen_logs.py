@@ -1,5 +1,6 @@
 #!/usr/bin/env python3
-"""Writes the two tables of logarithms from the recorded list tools/log2.txt: the code's literals and the definitions' bit patterns.
+"""Writes the two tables of logarithms from the recorded list tools/log2.txt: the code's literals, the first 64 of them
+a second time, and the definitions' bit patterns.
 
 Run from the repository's root. It stops where the list is not 1,024 entries in order, where a literal is not the float of its bits,
 or where an entry is not the binary32 nearest to the logarithm (found with 80 digits)."""
@@ -29,6 +30,10 @@ def filled(items, width):
     return "\n".join("    " + line.rstrip() for line in lines)
 
 
+def laid(rows):
+    return "\n".join(f"    {literal}," for _, _, literal in rows)
+
+
 rows = [line.split() for line in open("tools/log2.txt") if not line.startswith("#")]
 assert [int(n) for n, _, _ in rows] == list(range(1, 1025))
 for n, bits, literal in rows:
@@ -41,7 +46,12 @@ open("crates/logarithms/src/table.rt", "w").write(f"""\
 
 // Entry n - 1 is the logarithm of n.
 pub const LOGS: [f32; 1024] = [
-{chr(10).join(f"    {literal}," for _, _, literal in rows)}
+{laid(rows)}
+];
+
+// Its first entries, for small tables of weights.
+pub const FEW: [f32; 64] = [
+{laid(rows[:64])}
 ];
 """)
 
@@ -53,7 +63,7 @@ use mathlib.Core.List.{{List, [], _∷_, map}}
 use mathlib.Core.Path.{{_≡_}}
 use Prim.Native.Nat.{{ℕ, _-_}}
 use lib.Ieee.{{Float, nan, ofBits, binary32}}
-use lib.ListN.{{getD}}
+use lib.ListN.{{length, getD, take}}
 
 -- the bit patterns of the logarithms of 1 to 1,024
 unfoldable pub logBits : List ℕ
@@ -68,6 +78,10 @@ logs = map (ofBits binary32) logBits
 -- a list is the logarithms, as code is lent them
 abbrev pub Logs : List Float → Type 0
 Logs l = l ≡ logs
+
+-- a list is a front of the logarithms
+abbrev pub Front : List Float → Type 0
+Front l = l ≡ take (length l) logs
 
 -- the logarithm of n, from 1 to 1,024
 unfoldable pub logOf : ℕ → Float

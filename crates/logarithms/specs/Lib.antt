@@ -1,4 +1,5 @@
 pub mod Logs
+pub mod Lookups
 pub mod Floor
 pub mod Entropy
 pub mod Notes
