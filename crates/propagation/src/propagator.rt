@@ -1,7 +1,8 @@
 // The work list: what a removal takes from its neighbours, and the pop of one removal. `Propagator` of the Rust.
 // Follows docs/RULES.md, "Propagation".
 ghost use mathlib.Core.Path.{_≡_};
-ghost use Prim.Native.Nat.{_<_};
+ghost use Prim.Native.Nat.{ℕ, _+_, _*_, _<_};
+ghost use lib.ListN.{length, getD, drop};
 ghost use Rattle.adjacency.specs.Accepted.{AllBelow};
 ghost use Rattle.adjacency.specs.Tables.{table};
 ghost use Rattle.adjacency.specs.Weights.{mask};
@@ -13,6 +14,7 @@ ghost use Rattle.consistency.specs.Worklist as worklist;
 ghost use Rattle.propagation.specs.Beside.{beside};
 ghost use Rattle.propagation.specs.Watching.{watching};
 ghost use Rattle.propagation.specs.Lent.{stateOf, topOf, lowered, Lent, Room, Ground};
+ghost use Rattle.propagation.specs.Supports.{visits, untilLoss};
 use crate::inner::Pile;
 use grid::Near;
 
@@ -81,8 +83,23 @@ fn remove_and_propose(
     next
 }
 
+// From one entry on, takes one support from direction d from each pattern of a list, until one loses its last: that entry, or the list's end.
+// The loop stands alone, without a removal in it, so that its values need not be kept in memory.
+fn next_loss(base: usize, d: usize, list: &[u8], from: usize, counts: &mut [u8]) -> usize
+    requires { ⌜ ((i : ℕ) → i < length (now list) → (base + getD (now list) i 0) * 4 + d < length (now counts)) ⌝ }
+    ensures { λ r. ⌜ visits (drop r (now (list .entry))) (now (counts .exit)) ≡ untilLoss base d (drop from (now (list .entry))) (now (counts .entry)) ⌝ }
+{
+    let mut i = from;
+    while i < list.len() {
+        if crate::num_ways::try_decrement(counts, (base + wide(list[i])) * 4 + d) {
+            return i;
+        }
+        i += 1;
+    }
+    i
+}
+
 // Takes one support from direction d from each pattern of a list at a cell, in its order; where it was the last, the pattern goes.
-// A visit that removes nothing touches one count.
 fn decrements(
     count: usize,
     weights: &[u32],
@@ -110,33 +127,30 @@ fn decrements(
     let base = cell * count;
     let mut top = pile.top;
     let mut empty = pile.empty;
-    let mut i = 0;
+    let mut i = next_loss(base, d, list, 0, counts);
     while i < list.len() {
-        let q = wide(list[i]);
-        i += 1;
-        if crate::num_ways::try_decrement(counts, (base + q) * 4 + d) {
-            let next = remove_and_propose(
-                count,
-                weights,
-                weighted,
-                logs,
-                noise,
-                cells,
-                cell,
-                q,
-                domains,
-                counts,
-                pending,
-                floats,
-                marks,
-                Pile {
-                    top: top,
-                    empty: empty,
-                },
-            );
-            top = next.top;
-            empty = next.empty;
-        }
+        let next = remove_and_propose(
+            count,
+            weights,
+            weighted,
+            logs,
+            noise,
+            cells,
+            cell,
+            wide(list[i]),
+            domains,
+            counts,
+            pending,
+            floats,
+            marks,
+            Pile {
+                top: top,
+                empty: empty,
+            },
+        );
+        top = next.top;
+        empty = next.empty;
+        i = next_loss(base, d, list, i + 1, counts);
     }
     Pile {
         top: top,
