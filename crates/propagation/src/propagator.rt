@@ -7,7 +7,7 @@ ghost use Rattle.adjacency.specs.Accepted.{AllBelow};
 ghost use Rattle.adjacency.specs.Tables.{table};
 ghost use Rattle.adjacency.specs.Weights.{mask};
 ghost use Rattle.grid.specs.Grid.{grid};
-ghost use Rattle.logarithms.specs.Logs.{Logs};
+ghost use Rattle.logarithms.specs.Lookups.{Lookups};
 ghost use Rattle.consistency.specs.Domains.{possible};
 ghost use Rattle.consistency.specs.Worklist.{removal};
 ghost use Rattle.consistency.specs.Worklist as worklist;
@@ -36,6 +36,7 @@ fn remove_and_propose(
     weights: &[u32],
     weighted: u64,
     logs: &[f32],
+    sums: &[u16],
     noise: &[u32],
     cells: usize,
     cell: usize,
@@ -48,7 +49,7 @@ fn remove_and_propose(
     pile: Pile,
 ) -> Pile
     requires { ⌜ Lent count cells (now domains) (now counts) (now pending) pile ⌝ }
-    requires { ⌜ Room count cells (now weights) (now noise) (now floats) (now marks) × (weighted ≡ mask (now weights)) × Logs (now logs) ⌝ }
+    requires { ⌜ Room count cells (now weights) (now noise) (now floats) (now marks) × (weighted ≡ mask (now weights)) × Lookups (now weights) (now logs) (now sums) ⌝ }
     requires { ⌜ (cell < cells) × (pattern < count) × (possible (now domains) cell pattern ≡ 1) ⌝ }
     ensures { λ r. ⌜ stateOf count (now (domains .exit)) (now (counts .exit)) (now (pending .exit)) r (beside (now (floats .exit)) (now (marks .exit)))
         ≡ worklist.remove count (watching (now (weights .entry)) (now (noise .entry)) cells) (removal cell pattern)
@@ -71,6 +72,7 @@ fn remove_and_propose(
         weights,
         weighted,
         logs,
+        sums,
         noise,
         cells,
         cell,
@@ -105,6 +107,7 @@ fn decrements(
     weights: &[u32],
     weighted: u64,
     logs: &[f32],
+    sums: &[u16],
     noise: &[u32],
     cells: usize,
     cell: usize,
@@ -118,7 +121,7 @@ fn decrements(
     pile: Pile,
 ) -> Pile
     requires { ⌜ Lent count cells (now domains) (now counts) (now pending) pile ⌝ }
-    requires { ⌜ Room count cells (now weights) (now noise) (now floats) (now marks) × (weighted ≡ mask (now weights)) × Logs (now logs) ⌝ }
+    requires { ⌜ Room count cells (now weights) (now noise) (now floats) (now marks) × (weighted ≡ mask (now weights)) × Lookups (now weights) (now logs) (now sums) ⌝ }
     requires { ⌜ (cell < cells) × (d < 4) × AllBelow count (now list) ⌝ }
     ensures { λ r. ⌜ stateOf count (now (domains .exit)) (now (counts .exit)) (now (pending .exit)) r (beside (now (floats .exit)) (now (marks .exit)))
         ≡ worklist.decrements count (watching (now (weights .entry)) (now (noise .entry)) cells) cell d (now (list .entry))
@@ -134,6 +137,7 @@ fn decrements(
             weights,
             weighted,
             logs,
+            sums,
             noise,
             cells,
             cell,
@@ -166,6 +170,7 @@ fn spread_in(
     weights: &[u32],
     weighted: u64,
     logs: &[f32],
+    sums: &[u16],
     width: usize,
     height: usize,
     mode: usize,
@@ -183,7 +188,7 @@ fn spread_in(
 ) -> Pile
     requires { ⌜ Lent count cells (now domains) (now counts) (now pending) pile ⌝ }
     requires { ⌜ Ground (table count (now offsets) (now ids)) (grid width height mode) cells × (cell < cells) × (p < count) × (d < 4) ⌝ }
-    requires { ⌜ Room count cells (now weights) (now noise) (now floats) (now marks) × (weighted ≡ mask (now weights)) × Logs (now logs) ⌝ }
+    requires { ⌜ Room count cells (now weights) (now noise) (now floats) (now marks) × (weighted ≡ mask (now weights)) × Lookups (now weights) (now logs) (now sums) ⌝ }
     ensures { λ r. ⌜ stateOf count (now (domains .exit)) (now (counts .exit)) (now (pending .exit)) r (beside (now (floats .exit)) (now (marks .exit)))
         ≡ worklist.spreadIn (table count (now (offsets .entry)) (now (ids .entry))) (grid width height mode) (watching (now (weights .entry)) (now (noise .entry)) cells) (removal cell p) d
         (stateOf count (now (domains .entry)) (now (counts .entry)) (now (pending .entry)) pile (beside (now (floats .entry)) (now (marks .entry)))) ⌝ }
@@ -195,6 +200,7 @@ fn spread_in(
             weights,
             weighted,
             logs,
+            sums,
             noise,
             cells,
             n,
@@ -219,6 +225,7 @@ fn spread(
     weights: &[u32],
     weighted: u64,
     logs: &[f32],
+    sums: &[u16],
     width: usize,
     height: usize,
     mode: usize,
@@ -235,7 +242,7 @@ fn spread(
 ) -> Pile
     requires { ⌜ Lent count cells (now domains) (now counts) (now pending) pile ⌝ }
     requires { ⌜ Ground (table count (now offsets) (now ids)) (grid width height mode) cells × (cell < cells) × (p < count) ⌝ }
-    requires { ⌜ Room count cells (now weights) (now noise) (now floats) (now marks) × (weighted ≡ mask (now weights)) × Logs (now logs) ⌝ }
+    requires { ⌜ Room count cells (now weights) (now noise) (now floats) (now marks) × (weighted ≡ mask (now weights)) × Lookups (now weights) (now logs) (now sums) ⌝ }
     ensures { λ r. ⌜ stateOf count (now (domains .exit)) (now (counts .exit)) (now (pending .exit)) r (beside (now (floats .exit)) (now (marks .exit)))
         ≡ worklist.spread (table count (now (offsets .entry)) (now (ids .entry))) (grid width height mode) (watching (now (weights .entry)) (now (noise .entry)) cells) (removal cell p)
         (stateOf count (now (domains .entry)) (now (counts .entry)) (now (pending .entry)) pile (beside (now (floats .entry)) (now (marks .entry)))) ⌝ }
@@ -251,6 +258,7 @@ fn spread(
             weights,
             weighted,
             logs,
+            sums,
             width,
             height,
             mode,
@@ -287,6 +295,7 @@ pub(crate) fn pop(
     weights: &[u32],
     weighted: u64,
     logs: &[f32],
+    sums: &[u16],
     width: usize,
     height: usize,
     mode: usize,
@@ -301,7 +310,7 @@ pub(crate) fn pop(
 ) -> Pile
     requires { ⌜ Lent count cells (now domains) (now counts) (now pending) pile ⌝ }
     requires { ⌜ Ground (table count (now offsets) (now ids)) (grid width height mode) cells × (0 < pile .top) ⌝ }
-    requires { ⌜ Room count cells (now weights) (now noise) (now floats) (now marks) × (weighted ≡ mask (now weights)) × Logs (now logs) ⌝ }
+    requires { ⌜ Room count cells (now weights) (now noise) (now floats) (now marks) × (weighted ≡ mask (now weights)) × Lookups (now weights) (now logs) (now sums) ⌝ }
     ensures { λ r. ⌜ stateOf count (now (domains .exit)) (now (counts .exit)) (now (pending .exit)) r (beside (now (floats .exit)) (now (marks .exit)))
         ≡ worklist.spread (table count (now (offsets .entry)) (now (ids .entry))) (grid width height mode) (watching (now (weights .entry)) (now (noise .entry)) cells) (topOf count (now (pending .entry)) pile)
         (stateOf count (now (domains .entry)) (now (counts .entry)) (now (pending .entry)) (lowered pile) (beside (now (floats .entry)) (now (marks .entry)))) ⌝ }
@@ -315,6 +324,7 @@ pub(crate) fn pop(
         weights,
         weighted,
         logs,
+        sums,
         width,
         height,
         mode,

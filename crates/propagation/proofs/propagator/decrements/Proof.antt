@@ -17,19 +17,19 @@ use Rattle.propagation.proofs.propagator.decrements.Statement.{statemen
 use Rattle.propagation.proofs.propagator.decrements.Tie as tie
 
 abbrev Inv-loop : tie.InvT-loop
-Inv-loop count weights weighted logs noise cells cell d list domains₀ counts₀ pending₀ floats₀ marks₀ base top₀ empty₀ i₀ domains counts pending floats marks top empty i =
+Inv-loop count weights weighted logs sums noise cells cell d list domains₀ counts₀ pending₀ floats₀ marks₀ base top₀ empty₀ i₀ domains counts pending floats marks top empty i =
     (each (decrement count (watching weights noise cells) cell d) (drop i list) (stateIn count (memory domains counts pending floats marks) (piled top empty))
     ≡ each (decrement count (watching weights noise cells) cell d) (drop i₀ list) (stateIn count (memory domains₀ counts₀ pending₀ floats₀ marks₀) (piled top₀ empty₀)))
     × Going count cells weights noise (memory domains₀ counts₀ pending₀ floats₀ marks₀) (memory domains counts pending floats marks) (piled top empty)
     × Losing count cell d (drop i list) counts
 
 abbrev μ-loop : tie.MeasureT-loop
-μ-loop count weights weighted logs noise cells cell d list domains₀ counts₀ pending₀ floats₀ marks₀ base top₀ empty₀ i₀ domains counts pending floats marks top empty i =
+μ-loop count weights weighted logs sums noise cells cell d list domains₀ counts₀ pending₀ floats₀ marks₀ base top₀ empty₀ i₀ domains counts pending floats marks top empty i =
     length list - i
 
 -- the function's entry, from the first walk and from the loop's head
 abbrev entry : tie.After-next-loss Inv-loop μ-loop → tie.Start Inv-loop μ-loop
-entry c = c .before .before .before .before .before .before .before .before .before .before .before
+entry c = c .before .before .before .before .before .before .before .before .before .before .before .before
 
 abbrev start : tie.At-loop Inv-loop μ-loop → tie.Start Inv-loop μ-loop
 start l = entry (l .before .before .before)
@@ -52,12 +52,12 @@ one c =
 
 mul-base : tie.Need-mul-base Inv-loop μ-loop
 mul-base c =
-    let s = c .before .before .before .before .before .before .before .before .before in
+    let s = c .before .before .before .before .before .before .before .before .before .before in
     omega (arith, slot-small (s .pre .0) (s .pre .1 .1 .0) (s .pre .0 .some))
 
 next-loss-requires : tie.Need-next-loss-requires Inv-loop μ-loop
 next-loss-requires c κs =
-    let s = c .before .before .before .before .before .before .before .before .before .before in
+    let s = c .before .before .before .before .before .before .before .before .before .before .before in
     let (lent, (_, (hc, hd, below))) = s .pre in
     list-inside lent hc hd (s .args .list .now) below refl
 
@@ -78,14 +78,14 @@ remove-and-propose-requires : tie.Need-remove-and-propose-requires Inv-loop μ-l
 remove-and-propose-requires c κs =
     let wide = c .before .before .before .before .before in
     let head = wide .before .before .before in
-    let (lent, ((room, masked, logs), (hc, hd, below))) = start head .pre in
+    let (lent, ((room, masked, lookups), (hc, hd, below))) = start head .pre in
     let (_, going, _) = head .loop .inv in
-    (going .lent, ((going .room, masked, logs), (hc, read wide, last-possible (going .lent) hc hd (read wide) (one wide))))
+    (going .lent, ((going .room, masked, lookups), (hc, read wide, last-possible (going .lent) hc hd (read wide) (one wide))))
 
 add-next-loss : tie.Need-add-next-loss Inv-loop μ-loop
 add-next-loss c =
     let test = c .before .before .before .before .before .before .before .before .before .before .before .before .before .before .before .before .before .before in
-    omega (arith, test .loop-test .taken, start (test .before) .good .1 .1 .1 .1 .1 .1 .1 .1 .0)
+    omega (arith, test .loop-test .taken, start (test .before) .good .1 .1 .1 .1 .1 .1 .1 .1 .1 .0)
 
 next-loss-requires-2 : tie.Need-next-loss-requires-2 Inv-loop μ-loop
 next-loss-requires-2 c κs =
@@ -93,7 +93,7 @@ next-loss-requires-2 c κs =
     let head = called .before .before .before .before .before .before .before .before .before in
     let s = start head in
     let (_, (_, (hc, hd, below))) = s .pre in
-    list-inside (head .loop .inv .1 .lent) hc hd (s .args .list .now) below (called .remove-and-propose .kept .1 .1 .1 .1 .1 .1 .1 .1 .1 .0)
+    list-inside (head .loop .inv .1 .lent) hc hd (s .args .list .now) below (called .remove-and-propose .kept .1 .1 .1 .1 .1 .1 .1 .1 .1 .1 .0)
 
 loop-less : tie.Need-loop-less Inv-loop μ-loop
 loop-less c =
@@ -114,7 +114,7 @@ loop-again c =
     let (_, (_, (hc, hd, below))) = s .pre in
     let (left, going, _) = head .loop .inv in
     let step = decrement-last _ _ _ _ _ _ _ _ _ _ (one wide) (called .remove-and-propose .ensures) in
-    let gone = going-on going step (safe-decrement _ _ _ _ _ _ _ _ hc hd (read wide) (lent-safe (going .lent) _)) (called .remove-and-propose .kept .1 .1 .1 .1 .1 .1 .1 .1) in
+    let gone = going-on going step (safe-decrement _ _ _ _ _ _ _ _ hc hd (read wide) (lent-safe (going .lent) _)) (called .remove-and-propose .kept .1 .1 .1 .1 .1 .1 .1 .1 .1) in
     let v = visited-from _ _ _ _ _ _ _ _ hc hd (s .args .list .now) _ (head .loop .i + 1) below (gone .lent) (walk .next-loss2 .ensures) in (
       v .same ∙ each-turn _ _ (test .loop-test .taken) (wide .wide .ensures) step left,
       going-on gone refl (lent-safe (v .lent) _) (refl, (walk .next-loss2 .kept .1 .1 .1 .1 .0, (refl, (refl, (refl, tt {0}))))),
