@@ -287,7 +287,7 @@ module _ (i : Given) (words : List ℕ) (used : ℕ) (s : State Beside) {n m : �
     unfolding turn
     turn-sight k = rw (whole, k)
 
-    pub turn-still : o ≡ Nothing → {b : Bool} → b ≡ decided (s .domains) → Turn.over (ended (cond b 0 1) used (s .domains)) ≡ turn i words used s
+    pub turn-still : o ≡ Nothing → {end : ℕ} → end ≡ cond (decided (s .domains)) 0 1 → Turn.over (ended end used (s .domains)) ≡ turn i words used s
     unfolding seen still sightOf
     turn-still q d = rw d (turn-sight (sym observed-sight ∙ ap sightOf q))
 
@@ -308,6 +308,3 @@ module _ (i : Given) (words : List ℕ) (used : ℕ) (s : State Beside) {n m : �
     turn-from e {c} q h k =
         turn-chosen q h
         (k ∙ ap (λ (r : State Beside). chosen i c (taken (i .weights) (getD (r .domains) c 0) (getD words used 0 % weightSum (i .weights) (getD (r .domains) c 0))) r) e)
-
-    pub told-still : o ≡ Nothing → {b : Bool} → b ≡ decided (s .domains) → {t : Bool} → b ≡ t → Turn.over (ended (cond t 0 1) used (s .domains)) ≡ turn i words used s
-    told-still q d k = turn-still q (sym k ∙ d)

@@ -247,14 +247,12 @@ fn turns(
         (standing (stateIn count (memory (now (domains .entry)) (now (counts .entry)) (now (pending .entry)) (now (floats .entry)) (now (marks .entry)))))
         (memory (now (domains .entry)) (now (counts .entry)) (now (pending .entry)) (now (floats .entry)) (now (marks .entry))) ⌝ }
 {
-    let logs = logarithms::inner::logs();
     let stop = crate::collapse::collapse(
         count,
         offsets,
         ids,
         weights,
         adjacency::inner::weighted_mask(weights),
-        &logs,
         width,
         height,
         mode,
