@@ -29,6 +29,10 @@ def filled(items, width):
     return "\n".join("    " + line.rstrip() for line in lines)
 
 
+def laid(rows):
+    return "\n".join(f"    {literal}," for _, _, literal in rows)
+
+
 rows = [line.split() for line in open("tools/log2.txt") if not line.startswith("#")]
 assert [int(n) for n, _, _ in rows] == list(range(1, 1025))
 for n, bits, literal in rows:
@@ -41,7 +45,12 @@ open("crates/logarithms/src/table.rt", "w").write(f"""\
 
 // Entry n - 1 is the logarithm of n.
 pub const LOGS: [f32; 1024] = [
-{chr(10).join(f"    {literal}," for _, _, literal in rows)}
+{laid(rows)}
+];
+
+// Its first entries, for small tables of weights.
+pub const FEW: [f32; 64] = [
+{laid(rows[:64])}
 ];
 """)
 
@@ -53,7 +62,7 @@ use mathlib.Core.List.{{List, [], _∷_, map}}
 use mathlib.Core.Path.{{_≡_}}
 use Prim.Native.Nat.{{ℕ, _-_}}
 use lib.Ieee.{{Float, nan, ofBits, binary32}}
-use lib.ListN.{{getD}}
+use lib.ListN.{{length, getD, take}}
 
 -- the bit patterns of the logarithms of 1 to 1,024
 unfoldable pub logBits : List ℕ
@@ -68,6 +77,10 @@ logs = map (ofBits binary32) logBits
 -- a list is the logarithms, as code is lent them
 abbrev pub Logs : List Float → Type 0
 Logs l = l ≡ logs
+
+-- a list is a front of the logarithms
+abbrev pub Front : List Float → Type 0
+Front l = l ≡ take (length l) logs
 
 -- the logarithm of n, from 1 to 1,024
 unfoldable pub logOf : ℕ → Float

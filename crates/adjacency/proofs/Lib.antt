@@ -1,4 +1,5 @@
 pub mod WeightLaws
+pub mod FourLaws
 pub mod ListLaws
 pub mod AcceptedLaws
 pub mod LookupLaws

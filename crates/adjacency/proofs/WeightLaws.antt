@@ -33,6 +33,12 @@ module _ (ws : List ℕ) where
   pub weight-inside : (p : ℕ) → 0 < weightOf ws p → p < length ws
   weight-inside p h = elim (decLt p (length ws)) [ yes l ↦ l | no n ↦ absurd (omega (arith, weight-past p (omega arith))) ]
 
+  -- a pattern weighs at most what all weigh
+  pub weight-whole : (p : ℕ) → weightOf ws p ≤ wholeWeight ws
+  unfolding wholeWeight
+  weight-whole p =
+      elim (decLt p (length ws)) [ yes l ↦ sum-le (length ws) (weightOf ws) p l | no n ↦ omega (arith, weight-past p (omega arith)) ]
+
   -- ---- the sum over a word
 
   pub weightSum-none : weightSum ws 0 ≡ 0
@@ -144,9 +150,4 @@ weighed-bounded {P} {w} {ws} h few inside =
     record { few = omega arith; light = h .light; inside = rw (h .one-each) inside }
 
 pub weight-light : {P : ℕ} {ws : List ℕ} → Weighed P ws → (p : ℕ) → weightOf ws p ≤ 1024
-unfolding wholeWeight
-weight-light {P} {ws} h p =
-    elim (decLt p (length ws)) [
-      | yes l ↦ omega (arith, sum-le (length ws) (weightOf ws) p l, h .light)
-      | no n ↦ omega (arith, weight-past ws p (omega arith))
-    ]
+weight-light {P} {ws} h p = omega (arith, weight-whole ws p, h .light)

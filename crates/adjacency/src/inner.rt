@@ -1,10 +1,12 @@
 // The checks of a table one by one, its lists without checks, and weights, for the crates above.
+ghost use mathlib.Core.List.{List};
 ghost use mathlib.Core.Path.{_≡_};
-ghost use Prim.Native.Nat.{_+_, _*_, _≤_, _<_};
-ghost use lib.ListN.{length};
+ghost use Prim.Native.Nat.{ℕ, _+_, _*_, _%_, _^_, _≤_, _<_};
+ghost use lib.ListN.{length, getD, take};
 ghost use Rattle.loops.specs.Tests.{allTo, elem};
 ghost use Rattle.adjacency.specs.Tables.{table, listAt, listOf};
-ghost use Rattle.adjacency.specs.Weights.{Bounded, weightOf, weightSum, mask};
+ghost use Rattle.adjacency.specs.Weights.{Bounded, weightOf, wholeWeight, weightSum, mask};
+ghost use Rattle.adjacency.specs.Fours.{fourOf, sixteens, Fours, foursFrom};
 ghost use Rattle.adjacency.specs.Checks.{badCount, offsetsMisfit, overWeight, risesAt, offsetsOk, listOk, listsOk, badList, agreesAt, disagree};
 ghost use Rattle.adjacency.specs.Accepted.{Laid, Listed};
 
@@ -46,6 +48,107 @@ pub fn weighted_mask(weights: &[u32]) -> u64
     }
     word
 }
+
+// ---- weight sums of fours
+
+// How many entries the sums of so many patterns take.
+pub fn sixteens(count: usize) -> usize
+    requires { ⌜ count ≤ 64 ⌝ }
+    ensures { λ r. ⌜ r ≡ sixteens count ⌝ }
+{
+    (count + 15) / 16 * 64
+}
+
+// The last of the four patterns that m names.
+fn last_named(m: usize) -> usize
+    requires { ⌜ (1 ≤ m) × (m < 16) ⌝ }
+    ensures { λ r. ⌜ (r < 4) × (2 ^ r ≤ m) × (m < 2 * 2 ^ r) ⌝ }
+{
+    if m < 2 {
+        return 0;
+    }
+    if m < 4 {
+        return 1;
+    }
+    if m < 8 {
+        return 2;
+    }
+    3
+}
+
+// The weight of pattern p, and 0 past the last.
+fn weight_or_none(weights: &[u32], p: usize) -> u16
+    requires { ⌜ wholeWeight (now weights) ≤ 1024 ⌝ }
+    ensures { λ r. ⌜ r ≡ weightOf (now (weights .entry)) p ⌝ }
+{
+    if p < weights.len() {
+        return weights[p] as u16;
+    }
+    0
+}
+
+// Entry e, from those before it: that of its other patterns, and the weight of the last.
+fn four_entry(weights: &[u32], sums: &[u16; 256], e: usize) -> u16
+    requires { ⌜ (wholeWeight (now weights) ≤ 1024) × (e < 256) × ((i : ℕ) → i < e → getD (now sums) i 0 ≡ weightSum (now weights) (fourOf i)) ⌝ }
+    ensures { λ r. ⌜ r ≡ weightSum (now (weights .entry)) (fourOf e) ⌝ }
+{
+    if e % 16 == 0 {
+        return 0;
+    }
+    let last = last_named(e % 16);
+    let weight = weight_or_none(weights, e / 16 * 4 + last);
+    sums[e - (1usize << last)] + weight
+}
+
+// The sums of all fours, to be lent: they are made once, and not at each look. What stands past them is not looked at.
+pub fn four_sums(weights: &[u32]) -> [u16; 256]
+    requires { ⌜ (length (now weights) ≤ 64) × (wholeWeight (now weights) ≤ 1024) ⌝ }
+    ensures { λ r. ⌜ (256 ≡ length r) × Fours (now (weights .entry)) (take (sixteens (length (now (weights .entry)))) r) ⌝ }
+{
+    let end = sixteens(weights.len());
+    let mut sums = [0u16; 256];
+    let mut e = 0;
+    while e < end {
+        sums[e] = four_entry(weights, &sums, e);
+        e += 1;
+    }
+    sums
+}
+
+fn plain(x: u16) -> u32
+    ensures { λ r. ⌜ (r ≡ x) × (r < 65536) ⌝ }
+{
+    x as u32
+}
+
+// The entries of the word's lowest four fours, from a place on.
+fn fours_from(sums: &[u16], base: usize, word: u64) -> u32
+    requires { ⌜ (base + 64 ≤ length (now sums)) × (length (now sums) ≤ 256) ⌝ }
+    ensures { λ r. ⌜ (r ≡ foursFrom (now (sums .entry)) base word) × (r < 262144) ⌝ }
+{
+    plain(sums[base + (word % 16) as usize])
+        + plain(sums[base + 16 + (word / 16 % 16) as usize])
+        + plain(sums[base + 32 + (word / 256 % 16) as usize])
+        + plain(sums[base + 48 + (word / 4096 % 16) as usize])
+}
+
+// The weight sum of a word, looked up four patterns at a time.
+pub fn sum_of(sums: &[u16], word: u64) -> u32
+    requires { ⌜ (length (now sums) % 64 ≡ 0) × (length (now sums) ≤ 256) ⌝ }
+    ensures { λ r. ⌜ ((weights : List ℕ) → Fours weights (now (sums .entry)) → word < 2 ^ length weights → r ≡ weightSum weights word) ⌝ }
+{
+    let mut sum: u32 = 0;
+    let mut left = word;
+    let mut base = 0;
+    while base < sums.len() {
+        sum += fours_from(sums, base, left);
+        left = left / 65536;
+        base += 64;
+    }
+    sum
+}
+
+// ---- checks of a table
 
 // Whether there is no pattern, or there are over 64.
 pub fn bad_count(count: usize) -> bool

@@ -3,21 +3,23 @@
 -- Assumes nothing.
 use mathlib.Core.Bool.{Bool, _&&_}
 use mathlib.Core.List.{List}
-use mathlib.Core.Path.{_≡_, sym, ap, _∙_, subst, subst⁻¹}
+use mathlib.Core.Path.{_≡_, refl, sym, ap, _∙_, subst, subst⁻¹}
 use Prim.Native.Nat.{ℕ, zero, suc, _-_, _*_, _^_, _<_, _≤_, suc-le-suc}
 use native.Mathlib.Nat.{not-suc-le-zero}
 use native.Mathlib.Numerals.{sub-one, one-add}
+use native.Mathlib.Omega.{arith}
 use lib.Dec.{T, leb, ltb, eqb, leb→le, ltb→lt, eqb→eq}
 use lib.Ieee.{Float, nan, ofBits, toBits, ofInt, mul, lt, binary32}
 use lib.Ieee.Bits.{ofBits-toBits}
 use lib.Ieee.Fits.{and-l, and-r, ofInt-fits}
 use lib.Ieee.Scale.{finite}
 use lib.IntN.{pos}
-use lib.ListN.{getD, length, List·getD-map}
+use lib.ListN.{getD, length, take, length-take, List·getD-map}
 use lib.Pow.{suc-ones}
+use lib.Seq.{take-length, getD-take}
 use Rattle.loops.specs.Tests.{allTo}
 use Rattle.logarithms.specs.Floor.{floor64}
-use Rattle.logarithms.specs.Logs.{logBits, logs, logOf, Logs}
+use Rattle.logarithms.specs.Logs.{logBits, logs, logOf, Logs, Front}
 use Rattle.logarithms.specs.Entropy.{wLogW}
 use Rattle.loops.proofs.TestLaws.{all-at}
 use Rattle.logarithms.proofs.Chain.{whole, entries, neighbours}
@@ -64,6 +66,17 @@ passes-powers = tt
 pub logs-long : (l : List Float) → Logs l → length l ≡ 1024
 unfolding logs
 logs-long l e = ap length e
+
+-- the whole of them is a front, a front has no more than 1,024, and its entries are logarithms
+pub logs-front : (l : List Float) → Logs l → Front l
+logs-front l e = subst⁻¹ (λ (m : List Float). m ≡ take (length m) logs) e (sym (take-length logs))
+
+pub front-long : (l : List Float) → Front l → length l ≤ 1024
+front-long l e = omega (arith, ap length e, length-take (length l) logs, logs-long logs refl)
+
+pub front-at : (l : List Float) (n : ℕ) → Front l → 1 ≤ n → n ≤ length l → getD l (n - 1) nan ≡ logOf n
+unfolding logOf
+front-at l n e some few = ap (λ (m : List Float). getD m (n - 1) nan) e ∙ getD-take (length l) logs (n - 1) nan (omega arith)
 
 at : (k : ℕ) → logOf (suc k) ≡ ofBits binary32 (getD logBits k past)
 unfolding logOf ofBits past

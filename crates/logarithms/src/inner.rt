@@ -4,11 +4,12 @@ ghost use Prim.Native.Nat.{_+_, _≤_, _<_};
 ghost use lib.ListN.{length};
 ghost use Rattle.adjacency.specs.Weights.{Bounded, wholeWeight};
 ghost use Rattle.refusals.specs.Refusals.{numberOf};
-ghost use Rattle.logarithms.specs.Logs.{logOf, Logs};
+ghost use Rattle.logarithms.specs.Logs.{logOf, Logs, Front};
 ghost use Rattle.logarithms.specs.Entropy.{wLogW, plus, minus, running, less, entropy};
 ghost use Rattle.logarithms.specs.Notes.{noteOf, lowered};
 ghost use Rattle.logarithms.specs.Blocks.{blockOf, blockAt, touched};
 ghost use Rattle.logarithms.specs.Asked.{domainRefusal};
+use crate::table::FEW;
 use crate::table::LOGS;
 use refusals::Refusal;
 use refusals::Verdict;
@@ -22,9 +23,16 @@ pub fn logs() -> [f32; 1024]
     LOGS
 }
 
-// The logarithm of n, from the table.
+// The first 64 of it, for weights of at most that sum: a small table is laid out sooner.
+pub fn few_logs() -> [f32; 64]
+    ensures { λ r. ⌜ Front r × (64 ≡ length r) ⌝ }
+{
+    FEW
+}
+
+// The logarithm of n, from a front of the table that has it.
 pub fn log2(logs: &[f32], n: usize) -> f32
-    requires { ⌜ Logs (now logs) × (1 ≤ n) × (n ≤ 1024) ⌝ }
+    requires { ⌜ Front (now logs) × (1 ≤ n) × (n ≤ length (now logs)) ⌝ }
     ensures { λ r. ⌜ r ≡ logOf n ⌝ }
 {
     logs[n - 1]
@@ -32,7 +40,7 @@ pub fn log2(logs: &[f32], n: usize) -> f32
 
 // w log w, of a weight that is not 0.
 pub fn w_log_w(logs: &[f32], weight: u32) -> f32
-    requires { ⌜ Logs (now logs) × (1 ≤ weight) × (weight ≤ 1024) ⌝ }
+    requires { ⌜ Front (now logs) × (1 ≤ weight) × (weight ≤ length (now logs)) ⌝ }
     ensures { λ r. ⌜ r ≡ wLogW weight ⌝ }
 {
     (weight as f32) * log2(logs, weight as usize)
@@ -42,7 +50,7 @@ pub fn w_log_w(logs: &[f32], weight: u32) -> f32
 
 // What a pattern adds to the running value; a weight of 0 adds nothing.
 fn added(logs: &[f32], value: f32, weight: u32) -> f32
-    requires { ⌜ Logs (now logs) × (weight ≤ 1024) ⌝ }
+    requires { ⌜ Front (now logs) × (weight ≤ length (now logs)) ⌝ }
     ensures { λ r. ⌜ r ≡ plus value weight ⌝ }
 {
     if weight == 0 {
@@ -64,7 +72,7 @@ pub fn removed(logs: &[f32], value: f32, weight: u32) -> f32
 
 // The running value of all patterns, summed upward.
 pub fn running(logs: &[f32], weights: &[u32]) -> f32
-    requires { ⌜ Logs (now logs) × (wholeWeight (now weights) ≤ 1024) ⌝ }
+    requires { ⌜ Front (now logs) × (wholeWeight (now weights) ≤ length (now logs)) ⌝ }
     ensures { λ r. ⌜ r ≡ running (now (weights .entry)) ⌝ }
 {
     let mut value: f32 = 0.0;
@@ -96,7 +104,7 @@ pub fn less(logs: &[f32], weights: &[u32], word: u64) -> f32
 
 // The entropy of a weight sum that is not 0 and a running value.
 pub fn entropy_from(logs: &[f32], sum: u32, value: f32) -> f32
-    requires { ⌜ Logs (now logs) × (1 ≤ sum) × (sum ≤ 1024) ⌝ }
+    requires { ⌜ Front (now logs) × (1 ≤ sum) × (sum ≤ length (now logs)) ⌝ }
     ensures { λ r. ⌜ r ≡ entropy sum value ⌝ }
 {
     log2(logs, sum as usize) - value / (sum as f32)

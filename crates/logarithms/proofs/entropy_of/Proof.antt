@@ -9,6 +9,7 @@ use Rattle.adjacency.specs.Weights.{Bounded}
 use Rattle.logarithms.specs.Asked.{domainRefusal}
 use Rattle.refusals.proofs.RefusalLaws.{numberOf-accepted, numberOf-refused}
 use Rattle.adjacency.proofs.WeightLaws.{weightSum-le}
+use Rattle.logarithms.proofs.LogLaws.{logs-front, logs-long}
 use Rattle.logarithms.proofs.AskedLaws.{domain-bounded, told-refused, told-nothing, told-entropy}
 use Rattle.logarithms.proofs.entropy_of.Statement.{statement}
 use Rattle.logarithms.proofs.entropy_of.Tie as tie
@@ -58,7 +59,8 @@ entropy-from-requires c κs =
     let sum = left .before .weight-sum in
     let some : 1 ≤ sum .result = omega (arith, left .if1 .left) in
     let few : sum .result ≤ 1024 = omega (arith, sum .ensures, weightSum-le (a .weights .now) (a .domain), bounded at .light) in
-    (c .before .before .before .logs .ensures, some, few)
+    let whole = c .before .before .before .logs in
+    (logs-front (whole .result) (whole .ensures), some, omega (arith, few, logs-long (whole .result) (whole .ensures)))
 
 returns-2 : tie.Need-returns-2
 returns-2 c =

@@ -1,4 +1,4 @@
--- `logarithms::inner::entropy_from` meets its contract: a sum of at most 1,024 is a float as it stands.
+-- `logarithms::inner::entropy_from` meets its contract: a sum of which a front has the logarithm is a float as it stands.
 -- Assumes nothing.
 use Prim.Native.Nat.{_^_}
 use native.Mathlib.Omega.{arith}
@@ -6,6 +6,7 @@ use lib.Dec.{le→leb}
 use lib.Ieee.{inFloat}
 use borrow.Author.Needs.{needs}
 use Rattle.logarithms.specs.Entropy.{entropy}
+use Rattle.logarithms.proofs.LogLaws.{front-long}
 use Rattle.logarithms.proofs.inner.entropy_from.Statement.{statement}
 use Rattle.logarithms.proofs.inner.entropy_from.Tie as tie
 
@@ -14,7 +15,9 @@ log2-requires c κs = search needs
 
 int-to-float-result : tie.Need-int-to-float-result
 unfolding inFloat
-int-to-float-result c = le→leb (c .before .before .before .args .sum) (2 ^ 24) (omega arith)
+int-to-float-result c =
+    let start = c .before .before .before in
+    le→leb (start .args .sum) (2 ^ 24) (omega (arith, start .pre, front-long (start .args .logs .now) (start .pre .0)))
 
 returns : tie.Need-returns
 unfolding entropy

@@ -11,6 +11,7 @@ use borrow.Author.Tests.{not-true, not-false}
 use Rattle.loops.specs.Loops.{steps}
 use Rattle.logarithms.specs.Entropy.{missingAt, less}
 use Rattle.loops.proofs.LoopLaws.{steps-turn, steps-end}
+use Rattle.logarithms.proofs.LogLaws.{logs-front, logs-long}
 use Rattle.logarithms.proofs.EntropyLaws.{weight-few, missingAt-in, missingAt-out}
 use Rattle.logarithms.proofs.inner.less.Statement.{statement}
 use Rattle.logarithms.proofs.inner.less.Tie as tie
@@ -22,7 +23,10 @@ abbrev μ-loop : tie.MeasureT-loop
 μ-loop logs weights word value₀ p₀ value p = length weights - p
 
 running-requires : tie.Need-running-requires Inv-loop μ-loop
-running-requires c κs = (c .before .before .pre .0, c .before .before .pre .1 .light)
+running-requires c κs =
+    let start = c .before .before in
+    let l = start .args .logs .now in
+    (logs-front l (start .pre .0), omega (arith, start .pre .1 .light, logs-long l (start .pre .0)))
 
 loop-holds : tie.Need-loop-holds Inv-loop μ-loop
 unfolding less

@@ -1,14 +1,8 @@
--- `logarithms::inner::log2` meets its contract: what is lent is the list of the definitions, which has 1,024 entries.
+-- `logarithms::inner::log2` meets its contract: what is lent is a front of the list of the definitions.
 -- Assumes nothing.
-use mathlib.Core.List.{List}
-use mathlib.Core.Path.{ap}
-use Prim.Native.Nat.{_-_}
 use native.Mathlib.Omega.{arith}
-use lib.Ieee.{Float, nan}
-use lib.ListN.{getD}
 use borrow.Author.Needs.{needs}
-use Rattle.logarithms.specs.Logs.{logOf}
-use Rattle.logarithms.proofs.LogLaws.{logs-long}
+use Rattle.logarithms.proofs.LogLaws.{front-long, front-at}
 use Rattle.logarithms.proofs.inner.log2.Statement.{statement}
 use Rattle.logarithms.proofs.inner.log2.Tie as tie
 
@@ -16,14 +10,16 @@ sub-result : tie.Need-sub-result
 sub-result c = search needs
 
 mul-result : tie.Need-mul-result
-mul-result c = omega (arith, c .pre, logs-long (c .args .logs .now) (c .pre .0))
+mul-result c = omega (arith, c .pre, front-long (c .args .logs .now) (c .pre .0))
 
 shared-slice-read-result : tie.Need-shared-slice-read-result
-shared-slice-read-result c = omega (arith, c .before .pre, logs-long (c .before .args .logs .now) (c .before .pre .0))
+shared-slice-read-result c = omega (arith, c .before .pre)
 
 returns : tie.Need-returns
-unfolding logOf
-returns c = ap (λ (l : List Float). getD l (c .before .args .n - 1) nan) (c .before .pre .0)
+returns c =
+    let a = c .before .args in
+    let (front, some, few) = c .before .pre in
+    front-at (a .logs .now) (a .n) front some few
 
 pub log2-spec : {M : Type 1} → statement M
 log2-spec = tie.close (tie.spec sub-result mul-result shared-slice-read-result returns)

@@ -9,7 +9,7 @@ use borrow.Author.Needs.{needs}
 use Rattle.loops.specs.Loops.{steps}
 use Rattle.logarithms.specs.Entropy.{addedAt, running}
 use Rattle.loops.proofs.LoopLaws.{steps-turn, steps-end}
-use Rattle.logarithms.proofs.EntropyLaws.{weight-few}
+use Rattle.adjacency.proofs.WeightLaws.{weight-whole}
 use Rattle.logarithms.proofs.inner.running.Statement.{statement}
 use Rattle.logarithms.proofs.inner.running.Tie as tie
 
@@ -33,7 +33,7 @@ added-requires : tie.Need-added-requires Inv-loop μ-loop
 added-requires c κs =
     let at = c .before .before in
     let s = at .before .before .before in
-    (s .pre .0, weight-few (s .args .weights .now) (s .pre .1) (at .loop .p))
+    (s .pre .0, omega (arith, s .pre, weight-whole (s .args .weights .now) (at .loop .p)))
 
 add-p : tie.Need-add-p Inv-loop μ-loop
 add-p c = search needs

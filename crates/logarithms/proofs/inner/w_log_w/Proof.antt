@@ -1,4 +1,4 @@
--- `logarithms::inner::w_log_w` meets its contract: a weight of at most 1,024 is a float as it stands.
+-- `logarithms::inner::w_log_w` meets its contract: a weight of which a front has the logarithm is a float as it stands.
 -- Assumes nothing.
 use Prim.Native.Nat.{_^_}
 use native.Mathlib.Omega.{arith}
@@ -6,12 +6,15 @@ use lib.Dec.{le→leb}
 use lib.Ieee.{inFloat}
 use borrow.Author.Needs.{needs}
 use Rattle.logarithms.specs.Entropy.{wLogW}
+use Rattle.logarithms.proofs.LogLaws.{front-long}
 use Rattle.logarithms.proofs.inner.w_log_w.Statement.{statement}
 use Rattle.logarithms.proofs.inner.w_log_w.Tie as tie
 
 int-to-float-result : tie.Need-int-to-float-result
 unfolding inFloat
-int-to-float-result c = le→leb (c .before .before .args .weight) (2 ^ 24) (omega arith)
+int-to-float-result c =
+    let start = c .before .before in
+    le→leb (start .args .weight) (2 ^ 24) (omega (arith, start .pre, front-long (start .args .logs .now) (start .pre .0)))
 
 log2-requires : tie.Need-log2-requires
 log2-requires c κs = search needs
