@@ -2,6 +2,7 @@ pub mod BesideLaws
 pub mod LentLaws
 pub mod WatchedLaws
 pub mod WatchingLaws
+pub mod VisitLaws
 pub mod PropagatorLaws
 pub mod CountLaws
 pub mod GivenLaws

@@ -1,31 +1,30 @@
 -- Laws of the work list's steps on lent slices: the ways through each function, and what each leaves for the next.
 -- Follows docs/RULES.md, "Propagation".
 -- Assumes nothing.
-use mathlib.Core.Bool.{Bool, true, false, cond, not, _&&_}
-use mathlib.Core.List.{List, [], _∷_}
+use mathlib.Core.Bool.{Bool, true, false, not, _&&_}
+use mathlib.Core.List.{List}
 use mathlib.Core.Path.{_≡_, refl, sym, ap, subst, _∙_}
-use Prim.Native.Nat.{ℕ, zero, suc, _+_, _-_, _*_, _/_, _%_, _≤_, _<_}
+use Prim.Native.Nat.{ℕ, _+_, _-_, _*_, _/_, _%_, _≤_, _<_}
 use native.Mathlib.Decide.{ℕ-discrete}
 use native.Mathlib.Nat.{le-refl}
 use native.Mathlib.Omega.{arith}
-use lib.Dec.{eqb, leb, ltb}
-use lib.ListN.{length, getD, set}
-use borrow.Author.Tests.{eqb-true, eqb-false, le-leb, ltb-true, lt-ltb, not-true, not-false}
-use Rattle.loops.specs.Loops.{each, steps}
+use lib.Dec.{ltb}
+use lib.ListN.{length}
+use borrow.Author.Tests.{ltb-true, lt-ltb, not-true, not-false}
+use Rattle.loops.specs.Loops.{steps}
 use Rattle.adjacency.specs.Tables.{Table, listOf}
 use Rattle.grid.specs.declared.Near.{Near}
 use Rattle.grid.specs.declared.Near.the-variants.{Cell, Edge}
 use Rattle.grid.specs.Grid.{Grid, cells, neighbour}
 use Rattle.grid.specs.Answers.{cellOf}
 use Rattle.consistency.specs.Domains.{possible, Fit}
-use Rattle.consistency.specs.Worklist.{Removal, removal, State, state, place, remove, decrementAt, decrement, decrements, spreadIn, spread, propagate, propagated}
+use Rattle.consistency.specs.Worklist.{Removal, removal, State, state, remove, decrements, spreadIn, spread, propagate, propagated}
 use Rattle.consistency.specs.Safe.{total, Safe}
 use Rattle.propagation.specs.declared.inner.Pile.{Pile}
-use Rattle.propagation.specs.Supports.{Taken, taken, takenAt}
 use Rattle.propagation.specs.Lent.{pendingOf, stateOf, topOf, lowered, Lent, Ground}
 use Rattle.loops.proofs.TestLaws.{both}
 use Rattle.grid.proofs.GridLaws.{neighbour-inside}
-use Rattle.consistency.proofs.Keep.{counted-possible, safe-remove, safe-spreadIn, safe-spread, propagate-step, propagate-none, propagate-empty}
+use Rattle.consistency.proofs.Keep.{safe-remove, safe-spreadIn, safe-spread, propagate-step, propagate-none, propagate-empty}
 use Rattle.propagation.proofs.LentLaws.{pending-length, pending-top, lent-safe, top-cell, top-pattern, lowered-safe}
 
 -- ---- a pattern goes in propagation
@@ -35,56 +34,6 @@ module _ {P n : ℕ} {D C Q : List ℕ} {pile : Pile} (L : Lent P n D C Q pile) 
       → s ≡ remove P keep (removal c p) (stateOf P D C Q pile x) → Fit P n (s .domains)
   fit-remove keep {c} {p} x hc hp h e =
       subst (λ (z : State _). Safe P n (n * P) z) (sym e) (safe-remove P n (n * P) keep (removal c p) (stateOf P D C Q pile x) hc hp h (lent-safe L x)) .fit
-
--- ---- one support is taken; `b` is whether it was the last, and C′ the counts after it
-
-module _ {P n : ℕ} {D C Q : List ℕ} {pile : Pile} (L : Lent P n D C Q pile) {c d q : ℕ} (hc : c < n) (hd : d < 4) (hq : q < P) {C′ : List ℕ} {b : Bool}
-    (e : taken b C′ ≡ takenAt C (place P c q d)) where
-  last-is : b ≡ eqb (getD C (place P c q d) 0) 1
-  unfolding takenAt
-  last-is = ap (λ (t : Taken). t .last) e
-
-  left-is : C′ ≡ cond (leb 2 (getD C (place P c q d) 0)) (set C (place P c q d) (getD C (place P c q d) 0 - 1)) C
-  unfolding takenAt
-  left-is = ap (λ (t : Taken). t .counts) e
-
-  last-one : b ≡ true → getD C (place P c q d) 0 ≡ 1
-  last-one t = eqb-true _ _ (sym last-is ∙ t)
-
-  -- the last support is left to the removal
-  last-same : b ≡ true → C′ ≡ C
-  last-same t = left-is ∙ rw (last-one t)
-
-  pub lent-last : b ≡ true → Lent P n D C′ Q pile
-  lent-last t = rw (last-same t) L
-
-  pub possible-last : b ≡ true → possible D c q ≡ 1
-  possible-last t = counted-possible P n (n * P) _ (L .safe) c q d hc hq hd (omega (arith, last-one t))
-
-  module _ {X : Type 0} (keep : Removal → List ℕ → X → X) (x : X) where
-    pub decrement-last : b ≡ true → {s : State X} → s ≡ remove P keep (removal c q) (stateOf P D C′ Q pile x) → s ≡ decrement P keep c d q (stateOf P D C Q pile x)
-    unfolding decrement
-    decrement-last t k = rw (last-one t, decrement) (rw (last-same t) at k)
-
-    pub decrement-more : b ≡ false → stateOf P D C′ Q pile x ≡ decrement P keep c d q (stateOf P D C Q pile x)
-    unfolding decrement
-    decrement-more t = rw left-is (go (getD C (place P c q d) 0) (eqb-false _ _ (sym last-is ∙ t)))
-      where
-        go : (m : ℕ) → (m ≡ 1 → ⊥)
-            → stateOf P D (cond (leb 2 m) (set C (place P c q d) (m - 1)) C) Q pile x ≡ decrementAt P keep c d q m (stateOf P D C Q pile x)
-        go zero f = refl
-        go (suc zero) f = absurd (f refl)
-        go (suc (suc m)) f =
-            let less : suc (suc m) - 1 ≡ suc m = omega arith in
-            rw (le-leb 2 (suc (suc m)) (omega arith), less)
-
--- ---- a list
-
-pub decrements-each : (P : ℕ) {X : Type 0} (keep : Removal → List ℕ → X → X) (c d : ℕ) (qs : List ℕ) (s : State X)
-    → decrements P keep c d qs s ≡ each (decrement P keep c d) qs s
-unfolding decrements each
-decrements-each P keep c d [] s = refl
-decrements-each P keep c d (q ∷ qs) s = decrements-each P keep c d qs (decrement P keep c d q s)
 
 -- ---- a direction
 

@@ -10,9 +10,12 @@ use lib.ListN.{length, getD, take, replicate, length-replicate}
 use Rattle.words.specs.Words.{gathered}
 use Rattle.refusals.specs.Refusals.{answer}
 use Rattle.adjacency.specs.Tables.{Table}
+use Rattle.adjacency.specs.Fours.{fourOf}
 use Rattle.adjacency.specs.Weights.{weightOf, wholeWeight, weighted, mask}
 use Rattle.grid.specs.Grid.{Grid, cells}
 use Rattle.logarithms.specs.Blocks.{blocks}
+use Rattle.logarithms.specs.Logs.{Logs}
+use Rattle.logarithms.specs.Lookups.{Lookups}
 use Rattle.consistency.specs.Domains.{Fit, emptied}
 use Rattle.consistency.specs.Worklist.{Removal, State, state, propagated}
 use Rattle.consistency.specs.Start.{startCounts, missing, reduced}
@@ -24,6 +27,7 @@ use Rattle.propagation.specs.Lent.{pendingOf, stateOf, Lent, Room, Groun
 use Rattle.propagation.specs.Given.{Given, givenState}
 use Rattle.propagation.specs.Propagate.{reducedFrom, outcome, outcomeAt}
 use Rattle.loops.proofs.SumLaws.{sum-zero}
+use Rattle.adjacency.proofs.WeightLaws.{weightSum-le}
 use Rattle.consistency.proofs.DomainLaws.{settled-empty, settled-whole}
 use Rattle.consistency.proofs.Given.{given-settled}
 use Rattle.consistency.proofs.ForgetLaws.{forget-propagated}
@@ -101,6 +105,20 @@ module _ (P : ℕ) where
         marked = marked;
         roomy = λ p e. absurd (true≢false (sym e ∙ unweighted p));
       }
+
+-- every weight sum is 0
+pub lookups-none : (P : ℕ) → P ≤ 64 → {logs : List Float} → Logs logs → Lookups (replicate P 0) logs (replicate 256 0)
+lookups-none P h lent =
+    record {
+      logs-lent = lent;
+      sums-lent =
+          record {
+            each = λ e _. omega (arith, weightless 256 e, light P, weightSum-le (replicate P 0) (fourOf e));
+            all-there = omega (arith, length-replicate {A = ℕ} P 0, length-replicate {A = ℕ} 256 0);
+            in-sixteens = refl;
+          };
+      sums-few = omega (arith, length-replicate {A = ℕ} 256 0);
+    }
 
 -- the weights that the code lends
 pub take-zeros : (n m : ℕ) → n ≤ m → take {A = ℕ} n (replicate m 0) ≡ replicate n 0

@@ -7,6 +7,7 @@ ghost use lib.Ieee.{Float};
 ghost use lib.ListN.{length, drop};
 ghost use Rattle.adjacency.specs.Weights.{Weighed, mask};
 ghost use Rattle.logarithms.specs.Logs.{Logs};
+ghost use Rattle.logarithms.specs.Lookups.{Lookups};
 ghost use Rattle.propagation.specs.Beside as meaning;
 ghost use Rattle.propagation.specs.Beside.{beside, besideIn};
 ghost use Rattle.propagation.specs.Lent.{Room, Roomy};
@@ -86,6 +87,7 @@ pub(crate) fn propose(
     weights: &[u32],
     weighted: u64,
     logs: &[f32],
+    sums: &[u16],
     noise: &[u32],
     cells: usize,
     cell: usize,
@@ -94,13 +96,13 @@ pub(crate) fn propose(
     floats: &mut [f32],
     marks: &mut [u8],
 )
-    requires { ⌜ Room count cells (now weights) (now noise) (now floats) (now marks) × (weighted ≡ mask (now weights)) × Logs (now logs) ⌝ }
+    requires { ⌜ Room count cells (now weights) (now noise) (now floats) (now marks) × (weighted ≡ mask (now weights)) × Lookups (now weights) (now logs) (now sums) ⌝ }
     requires { ⌜ (count ≤ 64) × (cell < cells) × (pattern < count) × (word < 2 ^ count) ⌝ }
     ensures { λ _. ⌜ beside (now (floats .exit)) (now (marks .exit))
         ≡ meaning.proposing (now (weights .entry)) (now (noise .entry)) cells cell pattern word (beside (now (floats .entry)) (now (marks .entry))) ⌝ }
 {
     if proposes(count, weights, weighted, pattern, word) {
-        let sum = adjacency::inner::weight_sum(weights, word);
+        let sum = adjacency::inner::sum_of(sums, word);
         let entropy = logarithms::inner::entropy_from(logs, sum, floats[cell]);
         let ones = words::inner::count_ones(words::inner::shared(word, weighted));
         note(noise, cells, cell, entropy, ones as u32, floats, marks);

@@ -1,18 +1,20 @@
 // The work list: what a removal takes from its neighbours, and the pop of one removal. `Propagator` of the Rust.
 // Follows docs/RULES.md, "Propagation".
 ghost use mathlib.Core.Path.{_≡_};
-ghost use Prim.Native.Nat.{_<_};
+ghost use Prim.Native.Nat.{ℕ, _+_, _*_, _<_};
+ghost use lib.ListN.{length, getD, drop};
 ghost use Rattle.adjacency.specs.Accepted.{AllBelow};
 ghost use Rattle.adjacency.specs.Tables.{table};
 ghost use Rattle.adjacency.specs.Weights.{mask};
 ghost use Rattle.grid.specs.Grid.{grid};
-ghost use Rattle.logarithms.specs.Logs.{Logs};
+ghost use Rattle.logarithms.specs.Lookups.{Lookups};
 ghost use Rattle.consistency.specs.Domains.{possible};
 ghost use Rattle.consistency.specs.Worklist.{removal};
 ghost use Rattle.consistency.specs.Worklist as worklist;
 ghost use Rattle.propagation.specs.Beside.{beside};
 ghost use Rattle.propagation.specs.Watching.{watching};
 ghost use Rattle.propagation.specs.Lent.{stateOf, topOf, lowered, Lent, Room, Ground};
+ghost use Rattle.propagation.specs.Supports.{visits, untilLoss};
 use crate::inner::Pile;
 use grid::Near;
 
@@ -34,6 +36,7 @@ fn remove_and_propose(
     weights: &[u32],
     weighted: u64,
     logs: &[f32],
+    sums: &[u16],
     noise: &[u32],
     cells: usize,
     cell: usize,
@@ -46,7 +49,7 @@ fn remove_and_propose(
     pile: Pile,
 ) -> Pile
     requires { ⌜ Lent count cells (now domains) (now counts) (now pending) pile ⌝ }
-    requires { ⌜ Room count cells (now weights) (now noise) (now floats) (now marks) × (weighted ≡ mask (now weights)) × Logs (now logs) ⌝ }
+    requires { ⌜ Room count cells (now weights) (now noise) (now floats) (now marks) × (weighted ≡ mask (now weights)) × Lookups (now weights) (now logs) (now sums) ⌝ }
     requires { ⌜ (cell < cells) × (pattern < count) × (possible (now domains) cell pattern ≡ 1) ⌝ }
     ensures { λ r. ⌜ stateOf count (now (domains .exit)) (now (counts .exit)) (now (pending .exit)) r (beside (now (floats .exit)) (now (marks .exit)))
         ≡ worklist.remove count (watching (now (weights .entry)) (now (noise .entry)) cells) (removal cell pattern)
@@ -69,6 +72,7 @@ fn remove_and_propose(
         weights,
         weighted,
         logs,
+        sums,
         noise,
         cells,
         cell,
@@ -81,13 +85,29 @@ fn remove_and_propose(
     next
 }
 
+// From one entry on, takes one support from direction d from each pattern of a list, until one loses its last: that entry, or the list's end.
+// The loop stands alone, without a removal in it, so that its values need not be kept in memory.
+fn next_loss(base: usize, d: usize, list: &[u8], from: usize, counts: &mut [u8]) -> usize
+    requires { ⌜ ((i : ℕ) → i < length (now list) → (base + getD (now list) i 0) * 4 + d < length (now counts)) ⌝ }
+    ensures { λ r. ⌜ visits (drop r (now (list .entry))) (now (counts .exit)) ≡ untilLoss base d (drop from (now (list .entry))) (now (counts .entry)) ⌝ }
+{
+    let mut i = from;
+    while i < list.len() {
+        if crate::num_ways::try_decrement(counts, (base + wide(list[i])) * 4 + d) {
+            return i;
+        }
+        i += 1;
+    }
+    i
+}
+
 // Takes one support from direction d from each pattern of a list at a cell, in its order; where it was the last, the pattern goes.
-// A visit that removes nothing touches one count.
 fn decrements(
     count: usize,
     weights: &[u32],
     weighted: u64,
     logs: &[f32],
+    sums: &[u16],
     noise: &[u32],
     cells: usize,
     cell: usize,
@@ -101,7 +121,7 @@ fn decrements(
     pile: Pile,
 ) -> Pile
     requires { ⌜ Lent count cells (now domains) (now counts) (now pending) pile ⌝ }
-    requires { ⌜ Room count cells (now weights) (now noise) (now floats) (now marks) × (weighted ≡ mask (now weights)) × Logs (now logs) ⌝ }
+    requires { ⌜ Room count cells (now weights) (now noise) (now floats) (now marks) × (weighted ≡ mask (now weights)) × Lookups (now weights) (now logs) (now sums) ⌝ }
     requires { ⌜ (cell < cells) × (d < 4) × AllBelow count (now list) ⌝ }
     ensures { λ r. ⌜ stateOf count (now (domains .exit)) (now (counts .exit)) (now (pending .exit)) r (beside (now (floats .exit)) (now (marks .exit)))
         ≡ worklist.decrements count (watching (now (weights .entry)) (now (noise .entry)) cells) cell d (now (list .entry))
@@ -110,33 +130,31 @@ fn decrements(
     let base = cell * count;
     let mut top = pile.top;
     let mut empty = pile.empty;
-    let mut i = 0;
+    let mut i = next_loss(base, d, list, 0, counts);
     while i < list.len() {
-        let q = wide(list[i]);
-        i += 1;
-        if crate::num_ways::try_decrement(counts, (base + q) * 4 + d) {
-            let next = remove_and_propose(
-                count,
-                weights,
-                weighted,
-                logs,
-                noise,
-                cells,
-                cell,
-                q,
-                domains,
-                counts,
-                pending,
-                floats,
-                marks,
-                Pile {
-                    top: top,
-                    empty: empty,
-                },
-            );
-            top = next.top;
-            empty = next.empty;
-        }
+        let next = remove_and_propose(
+            count,
+            weights,
+            weighted,
+            logs,
+            sums,
+            noise,
+            cells,
+            cell,
+            wide(list[i]),
+            domains,
+            counts,
+            pending,
+            floats,
+            marks,
+            Pile {
+                top: top,
+                empty: empty,
+            },
+        );
+        top = next.top;
+        empty = next.empty;
+        i = next_loss(base, d, list, i + 1, counts);
     }
     Pile {
         top: top,
@@ -152,6 +170,7 @@ fn spread_in(
     weights: &[u32],
     weighted: u64,
     logs: &[f32],
+    sums: &[u16],
     width: usize,
     height: usize,
     mode: usize,
@@ -169,7 +188,7 @@ fn spread_in(
 ) -> Pile
     requires { ⌜ Lent count cells (now domains) (now counts) (now pending) pile ⌝ }
     requires { ⌜ Ground (table count (now offsets) (now ids)) (grid width height mode) cells × (cell < cells) × (p < count) × (d < 4) ⌝ }
-    requires { ⌜ Room count cells (now weights) (now noise) (now floats) (now marks) × (weighted ≡ mask (now weights)) × Logs (now logs) ⌝ }
+    requires { ⌜ Room count cells (now weights) (now noise) (now floats) (now marks) × (weighted ≡ mask (now weights)) × Lookups (now weights) (now logs) (now sums) ⌝ }
     ensures { λ r. ⌜ stateOf count (now (domains .exit)) (now (counts .exit)) (now (pending .exit)) r (beside (now (floats .exit)) (now (marks .exit)))
         ≡ worklist.spreadIn (table count (now (offsets .entry)) (now (ids .entry))) (grid width height mode) (watching (now (weights .entry)) (now (noise .entry)) cells) (removal cell p) d
         (stateOf count (now (domains .entry)) (now (counts .entry)) (now (pending .entry)) pile (beside (now (floats .entry)) (now (marks .entry)))) ⌝ }
@@ -181,6 +200,7 @@ fn spread_in(
             weights,
             weighted,
             logs,
+            sums,
             noise,
             cells,
             n,
@@ -205,6 +225,7 @@ fn spread(
     weights: &[u32],
     weighted: u64,
     logs: &[f32],
+    sums: &[u16],
     width: usize,
     height: usize,
     mode: usize,
@@ -221,7 +242,7 @@ fn spread(
 ) -> Pile
     requires { ⌜ Lent count cells (now domains) (now counts) (now pending) pile ⌝ }
     requires { ⌜ Ground (table count (now offsets) (now ids)) (grid width height mode) cells × (cell < cells) × (p < count) ⌝ }
-    requires { ⌜ Room count cells (now weights) (now noise) (now floats) (now marks) × (weighted ≡ mask (now weights)) × Logs (now logs) ⌝ }
+    requires { ⌜ Room count cells (now weights) (now noise) (now floats) (now marks) × (weighted ≡ mask (now weights)) × Lookups (now weights) (now logs) (now sums) ⌝ }
     ensures { λ r. ⌜ stateOf count (now (domains .exit)) (now (counts .exit)) (now (pending .exit)) r (beside (now (floats .exit)) (now (marks .exit)))
         ≡ worklist.spread (table count (now (offsets .entry)) (now (ids .entry))) (grid width height mode) (watching (now (weights .entry)) (now (noise .entry)) cells) (removal cell p)
         (stateOf count (now (domains .entry)) (now (counts .entry)) (now (pending .entry)) pile (beside (now (floats .entry)) (now (marks .entry)))) ⌝ }
@@ -237,6 +258,7 @@ fn spread(
             weights,
             weighted,
             logs,
+            sums,
             width,
             height,
             mode,
@@ -273,6 +295,7 @@ pub(crate) fn pop(
     weights: &[u32],
     weighted: u64,
     logs: &[f32],
+    sums: &[u16],
     width: usize,
     height: usize,
     mode: usize,
@@ -287,7 +310,7 @@ pub(crate) fn pop(
 ) -> Pile
     requires { ⌜ Lent count cells (now domains) (now counts) (now pending) pile ⌝ }
     requires { ⌜ Ground (table count (now offsets) (now ids)) (grid width height mode) cells × (0 < pile .top) ⌝ }
-    requires { ⌜ Room count cells (now weights) (now noise) (now floats) (now marks) × (weighted ≡ mask (now weights)) × Logs (now logs) ⌝ }
+    requires { ⌜ Room count cells (now weights) (now noise) (now floats) (now marks) × (weighted ≡ mask (now weights)) × Lookups (now weights) (now logs) (now sums) ⌝ }
     ensures { λ r. ⌜ stateOf count (now (domains .exit)) (now (counts .exit)) (now (pending .exit)) r (beside (now (floats .exit)) (now (marks .exit)))
         ≡ worklist.spread (table count (now (offsets .entry)) (now (ids .entry))) (grid width height mode) (watching (now (weights .entry)) (now (noise .entry)) cells) (topOf count (now (pending .entry)) pile)
         (stateOf count (now (domains .entry)) (now (counts .entry)) (now (pending .entry)) (lowered pile) (beside (now (floats .entry)) (now (marks .entry)))) ⌝ }
@@ -301,6 +324,7 @@ pub(crate) fn pop(
         weights,
         weighted,
         logs,
+        sums,
         width,
         height,
         mode,

@@ -12,8 +12,8 @@ use crate::inner::start::zero_bytes;
 use crate::inner::start::zero_domains;
 use crate::inner::start::zero_pending;
 
-// Propagates starting domains; whether a cell was emptied. No pattern has weight, so no note is read or written; the marks have room for 1,024 cells
-// and their blocks.
+// Propagates starting domains; whether a cell was emptied. No pattern has weight, so every weight sum is 0 and no note is read or written; the marks
+// have room for 1,024 cells and their blocks.
 fn reduce(
     count: usize,
     offsets: &[u32],
@@ -33,6 +33,7 @@ fn reduce(
     let begun = crate::given::begin(count, offsets, ids, domains, counts, pending);
     let logs = logarithms::inner::logs();
     let weights = [0u32; 64];
+    let sums = [0u16; 256];
     let noise = [0u32; 1];
     let mut floats = [0.0f32; 1];
     let mut marks = [0u8; 2080];
@@ -43,6 +44,7 @@ fn reduce(
         &weights[..count],
         0,
         &logs,
+        &sums,
         width,
         height,
         mode,

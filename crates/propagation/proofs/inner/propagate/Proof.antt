@@ -17,35 +17,35 @@ use Rattle.propagation.proofs.inner.propagate.Statement.{statement}
 use Rattle.propagation.proofs.inner.propagate.Tie as tie
 
 abbrev Inv-loop : tie.InvT-loop
-Inv-loop count offsets ids weights weighted logs width height mode noise domains₀ counts₀ pending₀ floats₀ marks₀ cells top₀ empty₀ domains counts pending floats marks top empty =
+Inv-loop count offsets ids weights weighted logs sums width height mode noise domains₀ counts₀ pending₀ floats₀ marks₀ cells top₀ empty₀ domains counts pending floats marks top empty =
     (propagated (table count offsets ids) (grid width height mode) (watching weights noise cells) (stateIn count (memory domains counts pending floats marks) (piled top empty))
     ≡ propagated (table count offsets ids) (grid width height mode) (watching weights noise cells) (stateIn count (memory domains₀ counts₀ pending₀ floats₀ marks₀) (piled top₀ empty₀)))
     × Going count cells weights noise (memory domains₀ counts₀ pending₀ floats₀ marks₀) (memory domains counts pending floats marks) (piled top empty)
 
 abbrev μ-loop : tie.MeasureT-loop
-μ-loop count offsets ids weights weighted logs width height mode noise domains₀ counts₀ pending₀ floats₀ marks₀ cells top₀ empty₀ domains counts pending floats marks top empty =
+μ-loop count offsets ids weights weighted logs sums width height mode noise domains₀ counts₀ pending₀ floats₀ marks₀ cells top₀ empty₀ domains counts pending floats marks top empty =
     top + total count cells domains
 
 -- the function's entry, from the loop's head
 abbrev start : tie.At-loop Inv-loop μ-loop → tie.Start Inv-loop μ-loop
-start l = l .before .before .before .before .before .before .before .before .before .before .before .before .before .before .before
+start l = l .before .before .before .before .before .before .before .before .before .before .before .before .before .before .before .before
 
 unmark-requires : tie.Need-unmark-requires Inv-loop μ-loop
-unmark-requires c κs = omega (arith, c .before .before .before .before .before .before .before .before .before .before .before .pre .1 .1 .0 .marked)
+unmark-requires c κs = omega (arith, c .before .before .before .before .before .before .before .before .before .before .before .before .pre .1 .1 .0 .marked)
 
 loop-holds : tie.Need-loop-holds Inv-loop μ-loop
 loop-holds c =
     let cleared = c .before .before in
-    let (lent, (_, (room, _, _))) = cleared .before .before .before .before .before .before .before .before .before .before .before .before .pre in
+    let (lent, (_, (room, _, _))) = cleared .before .before .before .before .before .before .before .before .before .before .before .before .before .pre in
     (refl, going-start lent (room-after room refl (cleared .unmark .kept .1 .0)))
 
 pop-requires : tie.Need-pop-requires Inv-loop μ-loop
 pop-requires c κs =
     let test = c .before .before .before .before .before in
     let head = test .before in
-    let (lent, (ground, (room, masked, logs))) = start head .pre in
+    let (lent, (ground, (room, masked, lookups))) = start head .pre in
     let going = head .loop .inv .1 in
-    (going .lent, ((ground, unfinished-some (piled (head .loop .top) (head .loop .empty)) (test .loop-test .taken)), (going .room, masked, logs)))
+    (going .lent, ((ground, unfinished-some (piled (head .loop .top) (head .loop .empty)) (test .loop-test .taken)), (going .room, masked, lookups)))
 
 loop-less : tie.Need-loop-less Inv-loop μ-loop
 loop-less c =
@@ -57,7 +57,7 @@ loop-less c =
     omega (
       arith,
       turn-less ground _ (going .lent) _ (test .loop-test .taken) (called .pop .ensures),
-      pending-length (start head .args .count) (called .pop .last .1 .1 .1 .1 .1 .1 .1 .1 .1 .1 .1 .1 .1 .0) (called .pop .result .top),
+      pending-length (start head .args .count) (called .pop .last .1 .1 .1 .1 .1 .1 .1 .1 .1 .1 .1 .1 .1 .1 .0) (called .pop .result .top),
     )
 
 loop-again : tie.Need-loop-again Inv-loop μ-loop
@@ -67,7 +67,7 @@ loop-again c =
     let head = test .before in
     let ground = start head .pre .1 .0 in
     let (left, going) = head .loop .inv in
-    let k = called .pop .kept .1 .1 .1 .1 .1 .1 .1 .1 .1 .1 .1 in (
+    let k = called .pop .kept .1 .1 .1 .1 .1 .1 .1 .1 .1 .1 .1 .1 in (
       propagated-turn ground _ (going .lent) _ (test .loop-test .taken) (called .pop .ensures) ∙ left,
       going-on going refl (turn-safe ground _ (going .lent) _ (test .loop-test .taken) (called .pop .ensures)) k,
     )

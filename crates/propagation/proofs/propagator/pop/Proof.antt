@@ -11,11 +11,11 @@ sub-top : tie.Need-sub-top
 sub-top c = search needs
 
 mul-slot : tie.Need-mul-slot
-mul-slot c = omega (arith, pile-small (c .before .before .before .before .before .before .before .before .before .before .before .pre .0))
+mul-slot c = omega (arith, pile-small (c .before .before .before .before .before .before .before .before .before .before .before .before .pre .0))
 
 slice-read-slot : tie.Need-slice-read-slot
 slice-read-slot c =
-    let s = c .before .before .before .before .before .before .before .before .before .before .before .before in
+    let s = c .before .before .before .before .before .before .before .before .before .before .before .before .before in
     omega (arith, pile-within (s .pre .0), s .pre .1 .0 .1)
 
 slot-requires : tie.Need-slot-requires
@@ -30,7 +30,7 @@ rem-spread c = search needs
 spread-requires : tie.Need-spread-requires
 spread-requires c κs =
     let read = c .before .before .before .before .before in
-    let (lent, ((ground, some), room)) = read .before .before .before .before .before .before .before .before .before .before .before .before .before .pre in
+    let (lent, ((ground, some), room)) = read .before .before .before .before .before .before .before .before .before .before .before .before .before .before .pre in
     (lent-lowered lent some, ((ground, rw (read .slot .ensures) (top-cell lent some), rw (read .slot .ensures) (top-pattern lent some)), room))
 
 same-length : tie.Need-same-length

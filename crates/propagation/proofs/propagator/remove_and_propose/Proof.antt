@@ -11,9 +11,9 @@ use Rattle.propagation.proofs.propagator.remove_and_propose.Tie as tie
 
 remove-requires : tie.Need-remove-requires
 remove-requires c κs =
-    let s = c .before .before .before .before .before .before .before .before .before .before .before .before in
-    let (lent, ((room, _, logs), which)) = s .pre in
-    rw (lent .safe .fit .sized) (lent, ((room .weighed, λ p h. room .roomy p h .valued, logs), which))
+    let s = c .before .before .before .before .before .before .before .before .before .before .before .before .before in
+    let (lent, ((room, _, lookups), which)) = s .pre in
+    rw (lent .safe .fit .sized) (lent, ((room .weighed, λ p h. room .roomy p h .valued, lookups .logs-lent), which))
 
 mul-propose : tie.Need-mul-propose
 mul-propose c = search needs
@@ -24,17 +24,17 @@ slice-read-propose c = search needs
 propose-requires : tie.Need-propose-requires
 propose-requires c κs =
     let removed = c .before .before .before .before .before .before .before .before .before .before .before in
-    let s = removed .before .before .before .before .before .before .before .before .before .before .before .before .before in
-    let (lent, ((room, masked, logs), (hc, hp, h))) = s .pre in
+    let s = removed .before .before .before .before .before .before .before .before .before .before .before .before .before .before in
+    let (lent, ((room, masked, lookups), (hc, hp, h))) = s .pre in
     let fit = fit-remove lent _ _ hc hp h (removed .remove .ensures (s .args .marks .now)) in
-    ((room-after room (removed .remove .kept .1 .1 .1 .1 .1 .1 .1 .1 .0) refl, masked, logs), (lent .patterns, hc, hp, fit .words (s .args .cell)))
+    ((room-after room (removed .remove .kept .1 .1 .1 .1 .1 .1 .1 .1 .0) refl, masked, lookups), (lent .patterns, hc, hp, fit .words (s .args .cell)))
 
 touch-requires : tie.Need-touch-requires
 touch-requires c κs =
     let proposed = c .before .before .before .before .before in
     let removed = proposed .before .before .before .before .before .before .before .before .before .before .before .before in
-    let s = removed .before .before .before .before .before .before .before .before .before .before .before .before .before in
-    omega (arith, s .pre .1 .0 .0 .marked, s .pre .1 .1 .0, proposed .propose .kept .1 .1 .1 .1 .1 .1 .1 .1 .1 .1 .0)
+    let s = removed .before .before .before .before .before .before .before .before .before .before .before .before .before .before in
+    omega (arith, s .pre .1 .0 .0 .marked, s .pre .1 .1 .0, proposed .propose .kept .1 .1 .1 .1 .1 .1 .1 .1 .1 .1 .1 .0)
 
 same-length : tie.Need-same-length
 same-length c = search needs
@@ -55,7 +55,7 @@ returns : tie.Need-returns
 returns c =
     let proposed = c .before .before .before .before .before .before .before .before in
     let removed = proposed .before .before .before .before .before .before .before .before .before .before .before .before in
-    let s = removed .before .before .before .before .before .before .before .before .before .before .before .before .before in
+    let s = removed .before .before .before .before .before .before .before .before .before .before .before .before .before .before in
     remove-proposed _ _ _ _ _ _ (removed .remove .ensures (s .args .marks .now)) (proposed .propose .ensures) (c .before .before .touch .ensures)
 
 pub remove-and-propose-spec : {M : Type 1} → statement M

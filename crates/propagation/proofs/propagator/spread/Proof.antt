@@ -16,7 +16,7 @@ use Rattle.propagation.proofs.propagator.spread.Statement.{statement}
 use Rattle.propagation.proofs.propagator.spread.Tie as tie
 
 abbrev Inv-loop : tie.InvT-loop
-Inv-loop count offsets ids weights weighted logs width height mode noise cells cell p domains₀ counts₀ pending₀ floats₀ marks₀ top₀ empty₀ d₀ domains counts pending floats marks top empty d =
+Inv-loop count offsets ids weights weighted logs sums width height mode noise cells cell p domains₀ counts₀ pending₀ floats₀ marks₀ top₀ empty₀ d₀ domains counts pending floats marks top empty d =
     (steps (spreadIn (table count offsets ids) (grid width height mode) (watching weights noise cells) (removal cell p)) d (4 - d)
     (stateIn count (memory domains counts pending floats marks) (piled top empty))
     ≡ steps (spreadIn (table count offsets ids) (grid width height mode) (watching weights noise cells) (removal cell p)) 0 4
@@ -24,12 +24,12 @@ Inv-loop count offsets ids weights weighted logs width height mode noise cells c
     × Going count cells weights noise (memory domains₀ counts₀ pending₀ floats₀ marks₀) (memory domains counts pending floats marks) (piled top empty)
 
 abbrev μ-loop : tie.MeasureT-loop
-μ-loop count offsets ids weights weighted logs width height mode noise cells cell p domains₀ counts₀ pending₀ floats₀ marks₀ top₀ empty₀ d₀ domains counts pending floats marks top empty d =
+μ-loop count offsets ids weights weighted logs sums width height mode noise cells cell p domains₀ counts₀ pending₀ floats₀ marks₀ top₀ empty₀ d₀ domains counts pending floats marks top empty d =
     4 - d
 
 -- the function's entry, from the loop's head
 abbrev start : tie.At-loop Inv-loop μ-loop → tie.Start Inv-loop μ-loop
-start l = l .before .before .before .before .before .before .before .before .before .before .before
+start l = l .before .before .before .before .before .before .before .before .before .before .before .before
 
 -- the direction of a turn
 below : (c : tie.In-loop Inv-loop μ-loop) → c .before .loop .d < 4
@@ -37,16 +37,16 @@ below c = omega (arith, c .loop-test .taken)
 
 loop-holds : tie.Need-loop-holds Inv-loop μ-loop
 loop-holds c =
-    let (lent, (_, (room, _, _))) = c .before .before .before .before .before .before .before .before .before .before .pre in
+    let (lent, (_, (room, _, _))) = c .before .before .before .before .before .before .before .before .before .before .before .pre in
     (refl, going-start lent room)
 
 spread-in-requires : tie.Need-spread-in-requires Inv-loop μ-loop
 spread-in-requires c κs =
     let test = c .before .before .before .before .before in
     let head = test .before in
-    let (lent, ((ground, hc, hp), (room, masked, logs))) = start head .pre in
+    let (lent, ((ground, hc, hp), (room, masked, lookups))) = start head .pre in
     let going = head .loop .inv .1 in
-    (going .lent, ((ground, hc, hp, below test), (going .room, masked, logs)))
+    (going .lent, ((ground, hc, hp, below test), (going .room, masked, lookups)))
 
 add-d : tie.Need-add-d Inv-loop μ-loop
 add-d c =
@@ -65,7 +65,7 @@ loop-again c =
     let head = test .before in
     let (lent, ((ground, hc, hp), room)) = start head .pre in
     let (left, going) = head .loop .inv in
-    let k = called .spread-in .kept .1 .1 .1 .1 .1 .1 .1 .1 .1 .1 .1 .1 .1 .1 in (
+    let k = called .spread-in .kept .1 .1 .1 .1 .1 .1 .1 .1 .1 .1 .1 .1 .1 .1 .1 in (
       steps-turn _ _ (below test) (called .spread-in .ensures) left,
       going-on going (called .spread-in .ensures) (ground-spreadIn ground _ hc hp (below test) (lent-safe (going .lent) _)) k,
     )

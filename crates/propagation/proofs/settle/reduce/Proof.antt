@@ -8,7 +8,7 @@ use borrow.Author.Needs.{needs}
 use Rattle.adjacency.specs.Tables.{table}
 use Rattle.grid.specs.Grid.{grid}
 use Rattle.consistency.specs.Worklist.{State}
-use Rattle.propagation.proofs.SettleLaws.{lent-begun, take-zeros, room-none, mask-none, reduce-is}
+use Rattle.propagation.proofs.SettleLaws.{lent-begun, take-zeros, room-none, mask-none, lookups-none, reduce-is}
 use Rattle.propagation.proofs.settle.reduce.Statement.{statement}
 use Rattle.propagation.proofs.settle.reduce.Tie as tie
 
@@ -38,16 +38,19 @@ slice-aggregate-propagate-4 c = search needs
 slice-aggregate-propagate-5 : tie.Need-slice-aggregate-propagate-5
 slice-aggregate-propagate-5 c = search needs
 
+slice-aggregate-propagate-6 : tie.Need-slice-aggregate-propagate-6
+slice-aggregate-propagate-6 c = search needs
+
 propagate-requires : tie.Need-propagate-requires
 propagate-requires c κs =
-    let made = c .before .before .before .before .before .before .before .before in
+    let made = c .before .before .before .before .before .before .before .before .before in
     let began = made .before .before .before .before .before in
     let s = began .before .before .before .before .before .before .before .before .before in
     let t = table (s .args .count) (s .args .offsets .now) (s .args .ids .now) in
     let g = grid (s .args .width) (s .args .height) (s .args .mode) in
     let zeros = take-zeros (s .args .count) 64 (s .pre .1 .patterns) in (
       lent-begun t g (s .args .domains .now) (s .pre .0) (s .pre .1 .fit) (s .pre .1) (began .begin .kept .1 .1 .1 .1 .1 .0) (began .begin .ensures),
-      (s .pre .0, (rw zeros (room-none (s .args .count) _ _ _ _ (omega (arith, s .pre .1 .cells, length-replicate {A = ℕ} 2080 0))), rw zeros (sym (mask-none (s .args .count))), made .logs .ensures)),
+      (s .pre .0, (rw zeros (room-none (s .args .count) _ _ _ _ (omega (arith, s .pre .1 .cells, length-replicate {A = ℕ} 2080 0))), rw zeros (sym (mask-none (s .args .count))), rw zeros (lookups-none (s .args .count) (s .pre .1 .patterns) (made .logs .ensures)))),
     )
 
 same-length : tie.Need-same-length
@@ -62,7 +65,7 @@ same-length-3 c = search needs
 returns : tie.Need-returns
 returns c =
     let left = c .before .before .before .before .before .before .before .before in
-    let began = left .before .before .before .before .before .before .before .before .before .before .before .before .before .before in
+    let began = left .before .before .before .before .before .before .before .before .before .before .before .before .before .before .before in
     let s = began .before .before .before .before .before .before .before .before .before in
     let t = table (s .args .count) (s .args .offsets .now) (s .args .ids .now) in
     let g = grid (s .args .width) (s .args .height) (s .args .mode) in
@@ -81,6 +84,7 @@ reduce-spec =
     slice-aggregate-propagate-3
     slice-aggregate-propagate-4
     slice-aggregate-propagate-5
+    slice-aggregate-propagate-6
     propagate-requires
     same-length
     same-length-2
