@@ -8,7 +8,7 @@ ghost use Rattle.adjacency.specs.Tables.{table};
 ghost use Rattle.adjacency.specs.Weights.{Weighed, mask, weightSum};
 ghost use Rattle.grid.specs.Grid.{grid, cells};
 ghost use Rattle.logarithms.specs.Blocks.{blocks, Watched};
-ghost use Rattle.logarithms.specs.Logs.{Logs};
+ghost use Rattle.logarithms.specs.Lookups.{Lookups};
 ghost use Rattle.propagation.specs.Beside.{besideIn};
 ghost use Rattle.propagation.specs.Lent.{stateOf, Lent, Room, Roomy, Ground};
 ghost use Rattle.run.specs.declared.collapse.Step.{Step};
@@ -63,6 +63,7 @@ fn choose_at(
     weights: &[u32],
     weighted: u64,
     logs: &[f32],
+    sums: &[u16],
     width: usize,
     height: usize,
     mode: usize,
@@ -77,7 +78,7 @@ fn choose_at(
 ) -> Pile
     requires { ⌜ Lent count (length (now domains)) (now domains) (now counts) (now pending) idle ⌝ }
     requires { ⌜ Ground (table count (now offsets) (now ids)) (grid width height mode) (length (now domains)) ⌝ }
-    requires { ⌜ Room count (length (now domains)) (now weights) (now noise) (now floats) (now marks) × (weighted ≡ mask (now weights)) × Logs (now logs) ⌝ }
+    requires { ⌜ Room count (length (now domains)) (now weights) (now noise) (now floats) (now marks) × (weighted ≡ mask (now weights)) × Lookups (now weights) (now logs) (now sums) ⌝ }
     requires { ⌜ (cell < length (now domains)) × (0 < weightSum (now weights) (getD (now domains) cell 0)) ⌝ }
     ensures { λ r. ⌜ (stateOf count (now (domains .exit)) (now (counts .exit)) (now (pending .exit)) r (besideIn (length (now (domains .exit))) (now (floats .exit)) (now (marks .exit)))
         ≡ run.chosen (given (table count (now (offsets .entry)) (now (ids .entry))) (now (weights .entry)) (grid width height mode) (now (noise .entry))) cell
@@ -95,6 +96,7 @@ fn choose_at(
         weights,
         weighted,
         logs,
+        sums,
         width,
         height,
         mode,
@@ -118,6 +120,7 @@ fn turn(
     weights: &[u32],
     weighted: u64,
     logs: &[f32],
+    sums: &[u16],
     width: usize,
     height: usize,
     mode: usize,
@@ -132,7 +135,7 @@ fn turn(
 ) -> Step
     requires { ⌜ Lent count (length (now domains)) (now domains) (now counts) (now pending) idle ⌝ }
     requires { ⌜ Ground (table count (now offsets) (now ids)) (grid width height mode) (length (now domains)) ⌝ }
-    requires { ⌜ Weighed count (now weights) × Roomy (length (now domains)) (now noise) (now floats) (now marks) × (weighted ≡ mask (now weights)) × Logs (now logs) ⌝ }
+    requires { ⌜ Weighed count (now weights) × Roomy (length (now domains)) (now noise) (now floats) (now marks) × (weighted ≡ mask (now weights)) × Lookups (now weights) (now logs) (now sums) ⌝ }
     requires { ⌜ Sightly (now noise) weighted (now domains) (now floats) (now marks) ⌝ }
     ensures { λ r. ⌜ (turnOf r used (λ pile. stateOf count (now (domains .exit)) (now (counts .exit)) (now (pending .exit)) pile (besideIn (length (now (domains .exit))) (now (floats .exit)) (now (marks .exit))))
         ≡ run.turn (given (table count (now (offsets .entry)) (now (ids .entry))) (now (weights .entry)) (grid width height mode) (now (noise .entry))) (now (words .entry)) used
@@ -150,6 +153,7 @@ fn turn(
                     weights,
                     weighted,
                     logs,
+                    sums,
                     width,
                     height,
                     mode,
@@ -176,6 +180,7 @@ fn advance(
     weights: &[u32],
     weighted: u64,
     logs: &[f32],
+    sums: &[u16],
     width: usize,
     height: usize,
     mode: usize,
@@ -190,7 +195,7 @@ fn advance(
 ) -> Stop
     requires { ⌜ Lent count (length (now domains)) (now domains) (now counts) (now pending) idle ⌝ }
     requires { ⌜ Ground (table count (now offsets) (now ids)) (grid width height mode) (length (now domains)) ⌝ }
-    requires { ⌜ Weighed count (now weights) × Roomy (length (now domains)) (now noise) (now floats) (now marks) × (weighted ≡ mask (now weights)) × Logs (now logs) ⌝ }
+    requires { ⌜ Weighed count (now weights) × Roomy (length (now domains)) (now noise) (now floats) (now marks) × (weighted ≡ mask (now weights)) × Lookups (now weights) (now logs) (now sums) ⌝ }
     requires { ⌜ Sightly (now noise) weighted (now domains) (now floats) (now marks) ⌝ }
     ensures { λ r. ⌜ ((step : Step) × (r ≡ stopOf step used)
         × (turnOf step used (λ pile. stateOf count (now (domains .exit)) (now (counts .exit)) (now (pending .exit)) pile (besideIn (length (now (domains .exit))) (now (floats .exit)) (now (marks .exit))))
@@ -205,6 +210,7 @@ fn advance(
         weights,
         weighted,
         logs,
+        sums,
         width,
         height,
         mode,
@@ -236,7 +242,7 @@ fn advance(
     }
 }
 
-// Turn by turn to the run's end, with what an observation left in the marks of blocks. The logarithms are laid out once for all turns.
+// Turn by turn to the run's end, with what an observation left in the marks of blocks. What an entropy is looked up in is laid out once for all turns.
 fn take_turns(
     count: usize,
     offsets: &[u32],
@@ -265,6 +271,8 @@ fn take_turns(
         (stateOf count (now (domains .entry)) (now (counts .entry)) (now (pending .entry)) idle (besideIn (length (now (domains .entry))) (now (floats .entry)) (now (marks .entry)))) ⌝ }
 {
     let logs = logarithms::inner::logs();
+    let sums = adjacency::inner::four_sums(weights);
+    let end = adjacency::inner::sixteens(count);
     let mut stop = Stop { end: 4, used: 0 };
     while stop.end == 4 {
         stop = advance(
@@ -274,6 +282,7 @@ fn take_turns(
             weights,
             weighted,
             &logs,
+            &sums[..end],
             width,
             height,
             mode,
@@ -292,7 +301,7 @@ fn take_turns(
 
 // Turn by turn to the run's end, from slices as some forbids leave them, with nothing pending and no empty cell.
 // After a contradiction the domains are those where a cell was emptied; the caller writes them as zero.
-// No block was looked at before. It looks before the logarithms are laid out, since a run that has nothing to choose needs none.
+// No block was looked at before. It looks before anything is laid out, since a run that has nothing to choose looks nothing up.
 pub(crate) fn collapse(
     count: usize,
     offsets: &[u32],
