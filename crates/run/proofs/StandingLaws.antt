@@ -16,25 +16,24 @@ use Rattle.grid.specs.Grid.{cells}
 use Rattle.logarithms.specs.Blocks.{blocks}
 use Rattle.consistency.specs.Worklist.{State, state}
 use Rattle.propagation.specs.declared.inner.Pile.{Pile}
-use Rattle.propagation.specs.Beside.{Beside, beside, besideIn}
+use Rattle.propagation.specs.Beside.{Beside, besideIn}
 use Rattle.propagation.specs.Lent.{pendingOf, stateOf, Lent, Roomy, Room, Ground}
 use Rattle.run.specs.declared.Forbid.{Forbid}
 use Rattle.run.specs.declared.Answer.the-variants.{Contradiction, Refused}
 use Rattle.run.specs.declared.collapse.Stop.{Stop}
 use Rattle.run.specs.Run.{Given, begun, asked, laid, Ended, collapse}
-use Rattle.run.specs.Course.{fullLess, wanted, Reached, forbade}
+use Rattle.run.specs.Course.{fullLess, wanted}
 use Rattle.run.specs.Called as calls
 use Rattle.run.specs.Called.{Memory, memory, roomOf, Opened, baseTests, testsOf, forbidTests, End, answerTold, Outcome, outcome, cleared, finished}
-use Rattle.run.specs.Steps.{idle, Laid, endedAs}
+use Rattle.run.specs.Steps.{idle, endedAs}
 use Rattle.run.specs.Stages.{contradicted, standing, stateIn, stageOf, Standing, beginAt, firstBad, beginning, layAt, concluding}
 use Rattle.consistency.proofs.Settled.{Settled}
-use Rattle.order.proofs.ListLaws.{numbers-drop}
 use Rattle.propagation.proofs.LentLaws.{safe-beside}
-use Rattle.run.proofs.SoundLaws.{reached-numbers}
 use Rattle.run.proofs.StateLaws.{asked-inside, reducedBy-settled, forbade-settled}
 use Rattle.run.proofs.CourseLaws.{run-final}
 use Rattle.run.proofs.EndLaws.{end-most}
-use Rattle.run.proofs.TurnsLaws.{pile-idle, laid-run}
+use Rattle.run.proofs.TurnsLaws.{pile-idle, laid-run, laid-numbers}
+use Rattle.run.proofs.WatchLaws.{laid-at}
 use Rattle.run.proofs.CalledLaws.{Granted, called-granted}
 
 -- ---- refused, or begun
@@ -115,9 +114,7 @@ module _ {i : Given} {m : Memory} (S : Standing i m) where
 
   -- no noted entropy is a NaN
   pub standing-numbers : Numbers (drop (length (m .domains)) (m .floats))
-  standing-numbers =
-      numbers-drop (m .floats) (length (m .domains))
-      (reached-numbers i (S .laid .forbids) (S .laid .lawful) (subst (λ (s : State Beside). Reached i (S .laid .forbids) [] 0 0 s) (sym (S .laid .is)) forbade) .numbers)
+  standing-numbers = laid-numbers (length (m .domains)) (S .laid)
 
   -- other marks of blocks change nothing
   pub standing-marks : (M : List ℕ) → length M ≡ length (m .marks) → take (2 * length (m .domains)) M ≡ take (2 * length (m .domains)) (m .marks)
@@ -134,9 +131,7 @@ module _ {i : Given} {m : Memory} (S : Standing i m) where
               floats = S .measured .floats;
               marks = k ∙ S .measured .marks;
             };
-        laid =
-            subst (λ (marks : List ℕ). Laid i (stateOf (i .table .count) (m .domains) (m .counts) (m .pending) idle (beside (m .floats) marks))) (sym e)
-            (S .laid);
+        laid = laid-at (i .table .count) (m .domains) (m .counts) (m .pending) (m .floats) (m .marks) M (S .laid) e;
       }
 
   pub standing-room : Room (i .table .count) (length (m .domains)) (i .weights) (i .noise) (m .floats) (m .marks)

@@ -11,11 +11,12 @@ use native.Mathlib.Nat.{mod-lt}
 use native.Mathlib.Omega.{arith}
 use lib.Dec.{eqb}
 use lib.Ieee.{Float}
-use lib.ListN.{length, getD, drop}
+use lib.ListN.{length, getD, take, drop, length-take}
 use lib.Seq.{getD-set-same}
 use borrow.Author.Tests.{eqb-false, eq-eqb, ne-eqb, lt-ltb, le-ltb}
 use Rattle.words.specs.Words.{bit, has, without, howMany, least}
-use Rattle.adjacency.specs.Weights.{weightSum, mask}
+use Rattle.adjacency.specs.Weights.{Weighed, wholeWeight, weightSum, mask}
+use Rattle.adjacency.specs.Fours.{sixteens, Fours}
 use Rattle.consistency.specs.Domains.{possible, removed}
 use Rattle.consistency.specs.Worklist.{Removal, removal, State, state, remove, forbidAt, forbid, forbids, propagated}
 use Rattle.consistency.specs.Start.{failing, others}
@@ -23,6 +24,8 @@ use Rattle.consistency.specs.Safe.{Safe}
 use Rattle.propagation.specs.declared.inner.Pile.{Pile}
 use Rattle.adjacency.specs.Tables.{Table}
 use Rattle.grid.specs.Grid.{Grid, cells}
+use Rattle.logarithms.specs.Logs.{Logs}
+use Rattle.logarithms.specs.Lookups.{Lookups}
 use Rattle.propagation.specs.Beside.{Beside, lessened, kept, unmarked}
 use Rattle.propagation.specs.Lent.{stateOf, Lent, Room, Ground}
 use Rattle.run.specs.declared.Forbid.{Forbid}
@@ -36,6 +39,7 @@ use Rattle.loops.proofs.TestLaws.{every-turn, every-stop, every-end}
 use Rattle.words.proofs.BitLaws.{bit-none, bit-not, bit-below, has-true, true-has}
 use Rattle.words.proofs.ChangeLaws.{bit-without, bit-without-other, without-le, without-less}
 use Rattle.words.proofs.LeastLaws.{least-below, least-found}
+use Rattle.adjacency.proofs.FourLaws.{sixteens-most}
 use Rattle.consistency.proofs.Keep.{safe-remove, safe-forbids}
 use Rattle.propagation.proofs.LentLaws.{lent-safe, lent-after, room-after}
 use Rattle.run.proofs.StateLaws.{asked-inside}
@@ -228,6 +232,27 @@ laid-is i f s s₁ z e k =
     (rw z at k)
     ∙ ap (λ (r : State Beside). propagated (i .table) (i .grid) (kept (i .weights) (i .noise) (cells (i .grid))) (state (r .counts) (r .domains) (r .pending) (r .empty) (unmarked (cells (i .grid)) (r .beside)))) e
 
+-- ---- what an entropy is looked up in, laid out for P patterns
+
+-- the sums that are lent are a front of those laid out
+pub sums-front : {P : ℕ} (sums : List ℕ) {end : ℕ} → P ≤ 64 → 256 ≡ length sums → end ≡ sixteens P → (end ≤ length sums) × (end ≡ length (take end sums))
+sums-front {P} sums {end} few long e =
+    let most : end ≤ length sums = omega (arith, e, long, sixteens-most P few) in
+    (most, omega (arith, most, length-take end sums))
+
+module _ {P : ℕ} {ws : List ℕ} where
+  pub four-few : P ≤ 64 → Weighed P ws → (length ws ≤ 64) × (wholeWeight ws ≤ 1024)
+  four-few few W = (omega (arith, W .one-each), W .light)
+
+  pub lookups-laid : {logs : List Float} (sums : List ℕ) {end : ℕ} → Weighed P ws → Logs logs → (256 ≡ length sums) × Fours ws (take (sixteens (length ws)) sums)
+      → end ≡ sixteens P → Lookups ws logs (take end sums)
+  lookups-laid sums {end} W lent (long, fours) e =
+      record {
+        logs-lent = lent;
+        sums-lent = subst (λ (n : ℕ). Fours ws (take n sums)) (ap sixteens (W .one-each) ∙ sym e) fours;
+        sums-few = omega (arith, long, length-take end sums);
+      }
+
 -- ---- a choice
 
 -- the pattern that a number takes is one of the table
@@ -287,7 +312,7 @@ module _ (i : Given) (words : List ℕ) (used : ℕ) (s : State Beside) {n m : �
     unfolding turn
     turn-sight k = rw (whole, k)
 
-    pub turn-still : o ≡ Nothing → {b : Bool} → b ≡ decided (s .domains) → Turn.over (ended (cond b 0 1) used (s .domains)) ≡ turn i words used s
+    pub turn-still : o ≡ Nothing → {end : ℕ} → end ≡ cond (decided (s .domains)) 0 1 → Turn.over (ended end used (s .domains)) ≡ turn i words used s
     unfolding seen still sightOf
     turn-still q d = rw d (turn-sight (sym observed-sight ∙ ap sightOf q))
 
@@ -308,6 +333,3 @@ module _ (i : Given) (words : List ℕ) (used : ℕ) (s : State Beside) {n m : �
     turn-from e {c} q h k =
         turn-chosen q h
         (k ∙ ap (λ (r : State Beside). chosen i c (taken (i .weights) (getD (r .domains) c 0) (getD words used 0 % weightSum (i .weights) (getD (r .domains) c 0))) r) e)
-
-    pub told-still : o ≡ Nothing → {b : Bool} → b ≡ decided (s .domains) → {t : Bool} → b ≡ t → Turn.over (ended (cond t 0 1) used (s .domains)) ≡ turn i words used s
-    told-still q d k = turn-still q (sym k ∙ d)

@@ -7,8 +7,9 @@ use mathlib.Core.Path.{_≡_, refl, sym, ap, subst, _∙_}
 use Prim.Native.Nat.{ℕ, suc, _+_, _-_, _*_, _<_}
 use native.Mathlib.Omega.{arith}
 use lib.Dec.{eqb}
-use lib.ListN.{length, replicate}
+use lib.ListN.{length, drop, replicate}
 use borrow.Author.Tests.{eq-eqb, ne-eqb}
+use Rattle.order.specs.Numbers.{Numbers}
 use Rattle.grid.specs.Grid.{cells}
 use Rattle.logarithms.specs.Blocks.{blocks}
 use Rattle.consistency.specs.Worklist.{State}
@@ -49,6 +50,21 @@ pub turn-empty : (i : Given) (words : List ℕ) (used : ℕ) (s : State Beside) 
 unfolding turn
 turn-empty i words used s e = rw e
 
+-- where no cell is empty no turn ends as a contradiction
+over-whole : (i : Given) (words : List ℕ) (used : ℕ) (s : State Beside) {e : Ended} → s .empty ≡ false → turn i words used s ≡ Turn.over e → e .end ≡ 3 → ⊥
+over-whole i words used s whole q f = true≢false (sym (subst (Says i words used s) f (turn-over i words used s q .says)) ∙ whole)
+
+-- a first turn that is over ends the run
+pub first-over : (i : Given) (words : List ℕ) (s : State Beside) {end : ℕ} → s .empty ≡ false → Turn.over (ended end 0 (s .domains)) ≡ turn i words 0 s
+    → endedAs (record { end = end; used = 0 }) (s .domains) ≡ collapse i words (cells (i .grid) + 1) 0 s
+unfolding endedAs
+first-over i words s {end} whole q =
+    rw (ne-eqb end 3 (over-whole i words 0 s whole (sym q)))
+    (sym (ap (λ (fuel : ℕ). collapse i words fuel 0 s) one ∙ collapse-over i words 0 s (cells (i .grid)) (sym q)))
+  where
+    one : cells (i .grid) + 1 ≡ suc (cells (i .grid))
+    one = omega arith
+
 -- ---- between two turns
 
 -- a pile with nothing pending, where no cell was emptied
@@ -80,13 +96,20 @@ pub laid-run : {i : Given} {s : State Beside} (words : List ℕ) (L : Laid i s) 
 unfolding runOf
 laid-run {i} words L = ap (λ (s : State Beside). collapse i words (cells (i .grid) + 1) 0 s) (L .is)
 
+laid-reached : {i : Given} {s : State Beside} (words : List ℕ) (L : Laid i s) → Reached i (L .forbids) words 0 0 s
+laid-reached {i} words L = subst (λ (s : State Beside). Reached i (L .forbids) words 0 0 s) (sym (L .is)) forbade
+
+-- no noted entropy is a NaN there
+pub laid-numbers : {i : Given} {s : State Beside} (n : ℕ) → Laid i s → Numbers (drop n (s .beside .floats))
+laid-numbers {i} {s} n L = numbers-drop (s .beside .floats) n (reached-numbers i (L .forbids) (L .lawful) (laid-reached [] L) .numbers)
+
 -- the turns start where the forbids lead
 pub turns-start : {i : Given} {words : List ℕ} {w : ℕ} {m : Memory} → Laid i (standsIn (i .table .count) m idle)
     → Found (i .noise) w (m .domains) (m .floats) (m .marks) → Turns i words w m m (record { end = 4; used = 0 })
 turns-start {i} {words} {w} {m} L F =
     record {
       laid = L;
-      going = λ _. (0, subst (λ (s : State Beside). Reached i (L .forbids) words 0 0 s) (sym (L .is)) forbade);
+      going = λ _. (0, laid-reached words L);
       over = λ n. absurd (n refl);
       found = F;
       kept = (refl, (refl, (refl, (refl, (refl, tt)))));
@@ -144,7 +167,7 @@ module _ {i : Given} {words : List ℕ} {w : ℕ} {m₀ m : Memory} {stop : Stop
     ends-says end q = turn-over i words (stop .used) (standsIn (i .table .count) m idle) (sym q) .says
 
     not-three : (end : ℕ) → Turned (Over end) → end ≡ 3 → ⊥
-    not-three end q f = true≢false (sym (subst (Says i words (stop .used) (standsIn (i .table .count) m idle)) f (ends-says end q)))
+    not-three end q = over-whole i words (stop .used) (standsIn (i .table .count) m idle) refl (sym q)
 
     not-four : (end : ℕ) → Turned (Over end) → end ≡ 4 → ⊥
     not-four end q f = subst (Says i words (stop .used) (standsIn (i .table .count) m idle)) f (ends-says end q)

@@ -194,11 +194,10 @@ forgotten-observed w noise D F M {M₁} long e k =
     k ∙ ap observe (notesIn-front (length D) noise D F (take (2 * length D) M) M₁ w
     (forgotten-cut D M long e ∙ sym (take-take (2 * length D) (2 * length D) M (le-refl (2 * length D)))))
 
--- the run stands where it stood
-pub forgotten-laid : {i : Given} (P : ℕ) (D C Q : List ℕ) (F : List Float) (M : List ℕ) {M₁ : List ℕ} → Laid i (stateOf P D C Q idle (besideIn (length D) F M))
-    → length M ≡ 2 * length D + blocks (length D) → M₁ ≡ forgotten (length D) M → Laid i (stateOf P D C Q idle (besideIn (length D) F M₁))
-forgotten-laid {i} P D C Q F M L long e =
-    subst (λ (m : List ℕ). Laid i (stateOf P D C Q idle (beside F m))) (sym (forgotten-cut D M long e)) L
+-- where the marks of cells are as they were the run stands where it stood
+pub laid-at : {i : Given} (P : ℕ) (D C Q : List ℕ) (F : List Float) (M M₁ : List ℕ) → Laid i (stateOf P D C Q idle (besideIn (length D) F M))
+    → take (2 * length D) M₁ ≡ take (2 * length D) M → Laid i (stateOf P D C Q idle (besideIn (length D) F M₁))
+laid-at {i} P D C Q F M M₁ L e = subst (λ (m : List ℕ). Laid i (stateOf P D C Q idle (beside F m))) (sym e) L
 
 pub roomy-at : {n : ℕ} {noise M M₁ : List ℕ} {F : List Float} → length M₁ ≡ length M → Roomy n noise F M → Roomy n noise F M₁
 roomy-at k R = record { heard = R .heard; valued = R .valued; marked = rw k (R .marked) }

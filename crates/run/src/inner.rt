@@ -103,6 +103,7 @@ pub fn lay_one(
         (stateIn count (memory (now (domains .entry)) (now (counts .entry)) (now (pending .entry)) (now (floats .entry)) (now (marks .entry)))) ⌝ }
 {
     let logs = logarithms::inner::logs();
+    let sums = adjacency::inner::four_sums(weights);
     let pile = crate::laying::lay(
         count,
         offsets,
@@ -110,6 +111,7 @@ pub fn lay_one(
         weights,
         adjacency::inner::weighted_mask(weights),
         &logs,
+        &sums[..adjacency::inner::sixteens(count)],
         width,
         height,
         mode,
@@ -247,14 +249,12 @@ fn turns(
         (standing (stateIn count (memory (now (domains .entry)) (now (counts .entry)) (now (pending .entry)) (now (floats .entry)) (now (marks .entry)))))
         (memory (now (domains .entry)) (now (counts .entry)) (now (pending .entry)) (now (floats .entry)) (now (marks .entry))) ⌝ }
 {
-    let logs = logarithms::inner::logs();
     let stop = crate::collapse::collapse(
         count,
         offsets,
         ids,
         weights,
         adjacency::inner::weighted_mask(weights),
-        &logs,
         width,
         height,
         mode,

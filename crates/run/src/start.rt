@@ -6,11 +6,11 @@ ghost use Prim.Native.Nat.{ℕ, _-_, _*_, _≤_, _<_};
 ghost use lib.ListN.{length, drop, replicate};
 ghost use Rattle.adjacency.specs.Tables.{table};
 ghost use Rattle.adjacency.specs.Accepted.{Accepted};
-ghost use Rattle.adjacency.specs.Weights.{Weighed, mask};
+ghost use Rattle.adjacency.specs.Weights.{Weighed, wholeWeight, mask};
 ghost use Rattle.grid.specs.Grid.{Grid};
 ghost use Rattle.grid.specs.Grid as grids;
 ghost use Rattle.logarithms.specs.Entropy.{running};
-ghost use Rattle.logarithms.specs.Logs.{Logs};
+ghost use Rattle.logarithms.specs.Logs.{Front};
 ghost use Rattle.consistency.specs.Worklist.{state};
 ghost use Rattle.propagation.specs.Beside.{besideIn};
 ghost use Rattle.run.specs.Run.{firstCount, firstEntropy, given, begun};
@@ -66,16 +66,16 @@ fn first_count(weights: &[u32], weighted: u64) -> u8
     0
 }
 
-// The entropy that each cell's note starts with, +0 where there is no note.
-fn first_entropy(count: usize, weights: &[u32], weighted: u64, logs: &[f32], value: f32) -> f32
-    requires { ⌜ Logs (now logs) × (1 ≤ count) × (count ≤ 64) × Weighed count (now weights) × (weighted ≡ mask (now weights)) × (value ≡ running (now weights)) ⌝ }
+// The entropy that each cell's note starts with, +0 where there is no note; `whole` is the whole weight.
+fn first_entropy(weights: &[u32], weighted: u64, logs: &[f32], whole: u32, value: f32) -> f32
+    requires { ⌜ Front (now logs) × (length (now weights) ≤ 64) × (weighted ≡ mask (now weights)) × (whole ≡ wholeWeight (now weights)) × (whole ≤ length (now logs))
+        × (value ≡ running (now weights)) ⌝ }
     ensures { λ r. ⌜ r ≡ firstEntropy (now (weights .entry)) ⌝ }
 {
     if first_count(weights, weighted) == 0 {
         return 0.0;
     }
-    let sum = adjacency::inner::weight_sum(weights, words::inner::full_word(count));
-    logarithms::inner::entropy_from(logs, sum, value)
+    logarithms::inner::entropy_from(logs, whole, value)
 }
 
 // The first `many` words are one word.
@@ -114,16 +114,38 @@ fn fill_marks(many: usize, number: u8, marks: &mut [u8])
     }
 }
 
-// A running value for each cell, then the first entropy for each.
+// A running value for each cell, then the first entropy for each, from a front of the logarithms that reaches the whole weight.
+fn lay_floats(
+    weights: &[u32],
+    weighted: u64,
+    logs: &[f32],
+    whole: u32,
+    cells: usize,
+    floats: &mut [f32],
+)
+    requires { ⌜ Front (now logs) × (length (now weights) ≤ 64) × (weighted ≡ mask (now weights)) × (whole ≡ wholeWeight (now weights)) × (whole ≤ length (now logs)) ⌝ }
+    requires { ⌜ length (now floats) ≡ 2 * cells ⌝ }
+    ensures { λ _. ⌜ now (floats .exit) ≡ replicate cells (running (now (weights .entry))) ++ replicate cells (firstEntropy (now (weights .entry))) ⌝ }
+{
+    let value = logarithms::inner::running(logs, weights);
+    let entropy = first_entropy(weights, weighted, logs, whole, value);
+    fill_floats(floats.len(), entropy, floats);
+    fill_floats(cells, value, floats);
+}
+
+// A running value for each cell, then the first entropy for each. Where the whole weight is at most 64, only that many logarithms are laid out.
 fn begin_floats(count: usize, weights: &[u32], weighted: u64, cells: usize, floats: &mut [f32])
     requires { ⌜ (1 ≤ count) × (count ≤ 64) × Weighed count (now weights) × (weighted ≡ mask (now weights)) × (length (now floats) ≡ 2 * cells) ⌝ }
     ensures { λ _. ⌜ now (floats .exit) ≡ replicate cells (running (now (weights .entry))) ++ replicate cells (firstEntropy (now (weights .entry))) ⌝ }
 {
+    let whole = adjacency::inner::weight_sum(weights, words::inner::full_word(count));
+    if whole <= 64 {
+        let few = logarithms::inner::few_logs();
+        lay_floats(weights, weighted, &few, whole, cells, floats);
+        return;
+    }
     let logs = logarithms::inner::logs();
-    let value = logarithms::inner::running(&logs, weights);
-    let entropy = first_entropy(count, weights, weighted, &logs, value);
-    fill_floats(floats.len(), entropy, floats);
-    fill_floats(cells, value, floats);
+    lay_floats(weights, weighted, &logs, whole, cells, floats);
 }
 
 // A count for each cell's note, then zero: no cell was noted yet, and no block was looked at.

@@ -33,42 +33,42 @@ slice-read-domain : tie.Need-slice-read-domain
 slice-read-domain c = search needs
 
 weight-sum-requires : tie.Need-weight-sum-requires
-weight-sum-requires c κs = bounded (c .before .before .before .before .before .before .before .before .before .before .before)
+weight-sum-requires c κs = bounded (c .before .before .before .before .before .before .before .before .before .before .before .before)
 
 rem-choose : tie.Need-rem-choose
 rem-choose c = search needs
 
 choose-requires : tie.Need-choose-requires
-choose-requires c κs = let s = c .before .before .before .before .before .before .before .before .before .before .before .before in (bounded s, drawn-below _ (c .weight-sum .ensures) (s .pre .1 .1 .1 .1))
+choose-requires c κs = let s = c .before .before .before .before .before .before .before .before .before .before .before .before .before in (bounded s, drawn-below _ (c .weight-sum .ensures) (s .pre .1 .1 .1 .1))
 
 lay-requires : tie.Need-lay-requires
 lay-requires c κs =
     let chose = c .before .before .before .before .before in
-    let (lent, (ground, (room, (hc, _)))) = chose .before .before .before .before .before .before .before .before .before .before .before .before .before .pre in
+    let (lent, (ground, (room, (hc, _)))) = chose .before .before .before .before .before .before .before .before .before .before .before .before .before .before .pre in
     (lent, (ground, (room, (hc, taken-below lent _ _ _ (chose .choose .ensures)))))
 
 same-length : tie.Need-same-length
-same-length c = c .before .before .before .before .before .before .before .before .before .before .lay .kept .1 .1 .1 .1 .1 .1 .1 .1 .1 .1 .1 .1 .1 .0
+same-length c = c .before .before .before .before .before .before .before .before .before .before .lay .kept .1 .1 .1 .1 .1 .1 .1 .1 .1 .1 .1 .1 .1 .1 .0
 
 same-length-2 : tie.Need-same-length-2
-same-length-2 c = c .before .before .before .before .before .before .before .before .before .before .lay .kept .1 .1 .1 .1 .1 .1 .1 .1 .1 .1 .1 .1 .1 .1 .0
+same-length-2 c = c .before .before .before .before .before .before .before .before .before .before .lay .kept .1 .1 .1 .1 .1 .1 .1 .1 .1 .1 .1 .1 .1 .1 .1 .0
 
 same-length-3 : tie.Need-same-length-3
-same-length-3 c = c .before .before .before .before .before .before .before .before .before .before .lay .kept .1 .1 .1 .1 .1 .1 .1 .1 .1 .1 .1 .1 .1 .1 .1 .0
+same-length-3 c = c .before .before .before .before .before .before .before .before .before .before .lay .kept .1 .1 .1 .1 .1 .1 .1 .1 .1 .1 .1 .1 .1 .1 .1 .1 .0
 
 same-length-4 : tie.Need-same-length-4
-same-length-4 c = c .before .before .before .before .before .before .before .before .before .before .lay .kept .1 .1 .1 .1 .1 .1 .1 .1 .1 .1 .1 .1 .1 .1 .1 .1 .0
+same-length-4 c = c .before .before .before .before .before .before .before .before .before .before .lay .kept .1 .1 .1 .1 .1 .1 .1 .1 .1 .1 .1 .1 .1 .1 .1 .1 .1 .0
 
 same-length-5 : tie.Need-same-length-5
-same-length-5 c = c .before .before .before .before .before .before .before .before .before .before .lay .kept .1 .1 .1 .1 .1 .1 .1 .1 .1 .1 .1 .1 .1 .1 .1 .1 .1 .0
+same-length-5 c = c .before .before .before .before .before .before .before .before .before .before .lay .kept .1 .1 .1 .1 .1 .1 .1 .1 .1 .1 .1 .1 .1 .1 .1 .1 .1 .1 .0
 
 returns : tie.Need-returns
 returns c =
     let called = c .before .before .before .before .before .before .before .before .before .before in
     let chose = called .before .before .before .before .before .before in
-    let s = chose .before .before .before .before .before .before .before .before .before .before .before .before .before in
+    let s = chose .before .before .before .before .before .before .before .before .before .before .before .before .before .before in
     let a = s .args in
-    let l = called .lay .last .1 .1 .1 .1 .1 .1 .1 .1 .1 .1 .1 .1 .1 in
+    let l = called .lay .last .1 .1 .1 .1 .1 .1 .1 .1 .1 .1 .1 .1 .1 .1 in
     (chosen-is (input s) (a .cell) (a .word) (entry s) {s′ = stateOf (a .count) (l .0) (l .1 .0) (l .1 .1 .0) (called .lay .result) (besideIn (length (l .0)) (l .1 .1 .1 .0) (l .1 .1 .1 .1 .0))} {k = 1} (chose .before .weight-sum .ensures) (chose .choose .ensures) (λ z. absurd (omega arith)) (called .lay .ensures .0), called .lay .ensures .1)
 
 pub choose-at-spec : {M : Type 1} → statement M

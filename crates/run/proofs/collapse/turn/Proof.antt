@@ -14,14 +14,14 @@ use Rattle.propagation.specs.Lent.{stateOf}
 use Rattle.choice.specs.Observer.{notesIn, observe}
 use Rattle.run.specs.Run.{Given, given}
 use Rattle.run.specs.Steps.{idle}
-use Rattle.run.proofs.StepLaws.{room-at, cell-inside, cell-weight, told-still, turn-paused, turn-from}
+use Rattle.run.proofs.StepLaws.{room-at, cell-inside, cell-weight, turn-still, turn-paused, turn-from}
 use Rattle.run.proofs.WatchLaws.{observed-cut, observed-found, chosen-found, observed-of}
 use Rattle.run.proofs.collapse.turn.Statement.{statement}
 use Rattle.run.proofs.collapse.turn.Tie as tie
 
 -- the function's entry, from where the observation is known
 abbrev start : tie.After-observe → tie.Start
-start c = c .before .before .before .before .before .before .before .before .before .before .before .before .before .before .before
+start c = c .before .before .before .before .before .before .before .before .before .before .before .before .before .before .before .before
 
 -- what the turn is given, and the state that it starts from
 abbrev input : tie.Start → Given
@@ -32,7 +32,7 @@ entry s = stateOf (s .args .count) (s .args .domains .now) (s .args .counts .now
 
 observe-requires : tie.Need-observe-requires
 observe-requires c κs =
-    let (_, (_, ((_, roomy, _, _), sight))) = c .before .before .before .before .before .before .before .before .before .before .before .before .before .before .pre in
+    let (_, (_, ((_, roomy, _, _), sight))) = c .before .before .before .before .before .before .before .before .before .before .before .before .before .before .before .pre in
     (record { noises = roomy .heard; words = refl; values = roomy .valued; marked = sight .marked }, (sight .numbers, sight .found))
 
 -- what was observed, of the marks of cells alone; `saw` is after the observation
@@ -42,31 +42,14 @@ observed c = let a = start c .args in observed-of (length (a .domains .now)) (a 
 enum-told : tie.Need-enum-told
 enum-told c = search needs
 
-decided-requires : tie.Need-decided-requires
-decided-requires c κs = search needs
-
-same-length : tie.Need-same-length
-same-length c = refl
-
-same-length-2 : tie.Need-same-length-2
-same-length-2 c = refl
-
-same-length-3 : tie.Need-same-length-3
-same-length-3 c = c .before .before .before .before .before .before .before .observe .kept .1 .1 .1 .1 .0
-
-returns : tie.Need-returns
-returns c =
-    let saw = c .before .before .before .before .before .before .before in
-    let s = start saw in (
-      told-still (input s) (s .args .words .now) (s .args .used) (entry s) (observed saw) (s .pre .1 .0 .all) (s .pre .1 .1 .0 .2) refl (c .before .before .before .enum-told .given .1) (c .before .decided .ensures) (c .if1 .taken),
-      observed-found (s .args .noise .now) (s .args .weighted) (s .args .domains .now) (s .args .floats .now) (s .args .marks .now) (s .pre .1 .1 .1 .marked) (saw .observe .ensures .1),
-    )
+still-end-requires : tie.Need-still-end-requires
+still-end-requires c κs = search needs
 
 enum-known-cell : tie.Need-enum-known-cell
 enum-known-cell c = search needs
 
 mul-choose-at : tie.Need-mul-choose-at
-mul-choose-at c = omega (arith, c .if2 .taken, c .before .before .before .before .before .before .before .before .before .before .before .before .before .before .before .before .before .before .before .before .before .good .1 .1 .1 .1 .1 .1 .1 .1 .1 .1 .0)
+mul-choose-at c = omega (arith, c .if1 .taken, c .before .before .before .before .before .before .before .before .before .before .before .before .before .before .before .before .before .before .before .before .before .before .good .1 .1 .1 .1 .1 .1 .1 .1 .1 .1 .1 .0)
 
 shared-slice-read-choose-at : tie.Need-shared-slice-read-choose-at
 shared-slice-read-choose-at c = search needs
@@ -75,47 +58,64 @@ choose-at-requires : tie.Need-choose-at-requires
 choose-at-requires c κs =
     let saw = c .before .before .before .before .before .before .before .before .before .before .before .before in
     let s = start saw in
-    let (lent, (ground, ((weighed, roomy, masked, logs), _))) = s .pre in
+    let (lent, (ground, ((weighed, roomy, masked, lookups), _))) = s .pre in
     let is = c .before .before .before .before .before .before .before .before .cell .given .1 in (
       lent,
       (
         ground,
         (
-          (room-at {marks′ = saw .observe .last .1 .1 .1 .1 .0} {floats′ = s .args .floats .now} refl refl (saw .observe .kept .1 .1 .1 .1 .0) (record { weighed = weighed; marked = roomy .marked; roomy = λ p h. roomy }), masked, logs),
+          (room-at {marks′ = saw .observe .last .1 .1 .1 .1 .0} {floats′ = s .args .floats .now} refl refl (saw .observe .kept .1 .1 .1 .1 .0) (record { weighed = weighed; marked = roomy .marked; roomy = λ p h. roomy }), masked, lookups),
           (cell-inside (input s) (s .args .words .now) (s .args .used) (entry s) (observed saw) (ground .all) masked is, cell-weight (input s) (s .args .words .now) (s .args .used) (entry s) (observed saw) (ground .all) masked is),
         ),
       ),
     )
 
+same-length : tie.Need-same-length
+same-length c = c .before .before .before .before .before .before .before .before .before .before .choose-at .kept .1 .1 .1 .1 .1 .1 .1 .1 .1 .1 .1 .1 .1 .0
+
+same-length-2 : tie.Need-same-length-2
+same-length-2 c = c .before .before .before .before .before .before .before .before .before .before .choose-at .kept .1 .1 .1 .1 .1 .1 .1 .1 .1 .1 .1 .1 .1 .1 .0
+
+same-length-3 : tie.Need-same-length-3
+same-length-3 c = c .before .before .before .before .before .before .before .before .before .before .choose-at .kept .1 .1 .1 .1 .1 .1 .1 .1 .1 .1 .1 .1 .1 .1 .1 .0
+
 same-length-4 : tie.Need-same-length-4
-same-length-4 c = c .before .before .before .before .before .before .before .before .before .before .choose-at .kept .1 .1 .1 .1 .1 .1 .1 .1 .1 .1 .1 .1 .0
+same-length-4 c = c .before .before .before .before .before .before .before .before .before .before .choose-at .kept .1 .1 .1 .1 .1 .1 .1 .1 .1 .1 .1 .1 .1 .1 .1 .1 .0
 
 same-length-5 : tie.Need-same-length-5
-same-length-5 c = c .before .before .before .before .before .before .before .before .before .before .choose-at .kept .1 .1 .1 .1 .1 .1 .1 .1 .1 .1 .1 .1 .1 .0
+same-length-5 c = c .before .before .before .before .before .before .before .before .before .before .choose-at .kept .1 .1 .1 .1 .1 .1 .1 .1 .1 .1 .1 .1 .1 .1 .1 .1 .1 .0 ∙ c .before .before .before .before .before .before .before .before .before .before .before .before .before .before .before .before .before .before .before .before .before .before .before .observe .kept .1 .1 .1 .1 .0
 
-same-length-6 : tie.Need-same-length-6
-same-length-6 c = c .before .before .before .before .before .before .before .before .before .before .choose-at .kept .1 .1 .1 .1 .1 .1 .1 .1 .1 .1 .1 .1 .1 .1 .0
-
-same-length-7 : tie.Need-same-length-7
-same-length-7 c = c .before .before .before .before .before .before .before .before .before .before .choose-at .kept .1 .1 .1 .1 .1 .1 .1 .1 .1 .1 .1 .1 .1 .1 .1 .0
-
-same-length-8 : tie.Need-same-length-8
-same-length-8 c = c .before .before .before .before .before .before .before .before .before .before .choose-at .kept .1 .1 .1 .1 .1 .1 .1 .1 .1 .1 .1 .1 .1 .1 .1 .1 .0 ∙ c .before .before .before .before .before .before .before .before .before .before .before .before .before .before .before .before .before .before .before .before .before .before .before .observe .kept .1 .1 .1 .1 .0
-
-returns-2 : tie.Need-returns-2
-returns-2 c =
+returns : tie.Need-returns
+returns c =
     let called = c .before .before .before .before .before .before .before .before .before .before .choose-at in
     let saw = c .before .before .before .before .before .before .before .before .before .before .before .before .before .before .before .before .before .before .before .before .before .before .before in
     let s = start saw in
     let a = s .args in
-    let l = called .last .1 .1 .1 .1 .1 .1 .1 .1 .1 .1 .1 .1 in
+    let l = called .last .1 .1 .1 .1 .1 .1 .1 .1 .1 .1 .1 .1 .1 in
     let sight = s .pre .1 .1 .1 in (
       turn-from (input s) (a .words .now) (a .used) (entry s) (observed saw) (s .pre .1 .0 .all) (s .pre .1 .1 .0 .2) refl
           (ap (λ (m : List ℕ). stateOf (a .count) (a .domains .now) (a .counts .now) (a .pending .now) idle (beside (a .floats .now) m))
           (observed-cut (a .noise .now) (a .weighted) (a .domains .now) (a .floats .now) (a .marks .now) (sight .marked) (saw .observe .ensures .1)))
-          {s′ = stateOf (a .count) (l .0) (l .1 .0) (l .1 .1 .0) (called .result) (besideIn (length (l .0)) (l .1 .1 .1 .0) (l .1 .1 .1 .1 .0))} (c .before .before .before .before .before .before .before .before .before .before .before .before .before .before .before .before .before .before .before .cell .given .1) (c .before .before .before .before .before .before .before .before .before .before .before .before .before .before .before .before .before .if2 .taken) (called .ensures .0),
+          {s′ = stateOf (a .count) (l .0) (l .1 .0) (l .1 .1 .0) (called .result) (besideIn (length (l .0)) (l .1 .1 .1 .0) (l .1 .1 .1 .1 .0))} (c .before .before .before .before .before .before .before .before .before .before .before .before .before .before .before .before .before .before .before .cell .given .1) (c .before .before .before .before .before .before .before .before .before .before .before .before .before .before .before .before .before .if1 .taken) (called .ensures .0),
       chosen-found (a .noise .now) (a .weighted) (a .domains .now) (a .floats .now) (a .marks .now) (sight .marked) (saw .observe .ensures .1) (l .0) (l .1 .1 .1 .0) (l .1 .1 .1 .1 .0)
-          (called .kept .1 .1 .1 .1 .1 .1 .1 .1 .1 .1 .1 .1 .0) (called .ensures .1),
+          (called .kept .1 .1 .1 .1 .1 .1 .1 .1 .1 .1 .1 .1 .1 .0) (called .ensures .1),
+    )
+
+same-length-6 : tie.Need-same-length-6
+same-length-6 c = refl
+
+same-length-7 : tie.Need-same-length-7
+same-length-7 c = refl
+
+same-length-8 : tie.Need-same-length-8
+same-length-8 c = c .before .before .before .before .before .before .observe .kept .1 .1 .1 .1 .0
+
+returns-2 : tie.Need-returns-2
+returns-2 c =
+    let saw = c .before .before .before .before .before .before in
+    let s = start saw in (
+      turn-still (input s) (s .args .words .now) (s .args .used) (entry s) (observed saw) (s .pre .1 .0 .all) (s .pre .1 .1 .0 .2) refl (c .before .before .enum-told .given .1) (c .still-end .ensures),
+      observed-found (s .args .noise .now) (s .args .weighted) (s .args .domains .now) (s .args .floats .now) (s .args .marks .now) (s .pre .1 .1 .1 .marked) (saw .observe .ensures .1),
     )
 
 same-length-9 : tie.Need-same-length-9
@@ -125,30 +125,13 @@ same-length-10 : tie.Need-same-length-10
 same-length-10 c = refl
 
 same-length-11 : tie.Need-same-length-11
-same-length-11 c = c .before .before .before .before .before .before .before .observe .kept .1 .1 .1 .1 .0
+same-length-11 c = c .before .before .before .before .before .before .observe .kept .1 .1 .1 .1 .0
 
 returns-3 : tie.Need-returns-3
 returns-3 c =
-    let saw = c .before .before .before .before .before .before .before in
-    let s = start saw in (
-      told-still (input s) (s .args .words .now) (s .args .used) (entry s) (observed saw) (s .pre .1 .0 .all) (s .pre .1 .1 .0 .2) refl (c .before .before .before .enum-told .given .1) (c .before .decided .ensures) (c .if1 .left),
-      observed-found (s .args .noise .now) (s .args .weighted) (s .args .domains .now) (s .args .floats .now) (s .args .marks .now) (s .pre .1 .1 .1 .marked) (saw .observe .ensures .1),
-    )
-
-same-length-12 : tie.Need-same-length-12
-same-length-12 c = refl
-
-same-length-13 : tie.Need-same-length-13
-same-length-13 c = refl
-
-same-length-14 : tie.Need-same-length-14
-same-length-14 c = c .before .before .before .before .before .before .observe .kept .1 .1 .1 .1 .0
-
-returns-4 : tie.Need-returns-4
-returns-4 c =
     let saw = c .before .before .before .before .before .before in
     let s = start saw in (
-      turn-paused (input s) (s .args .words .now) (s .args .used) (entry s) (observed saw) (s .pre .1 .0 .all) (s .pre .1 .1 .0 .2) refl (c .before .before .cell .given .1) (c .if2 .left),
+      turn-paused (input s) (s .args .words .now) (s .args .used) (entry s) (observed saw) (s .pre .1 .0 .all) (s .pre .1 .1 .0 .2) refl (c .before .before .cell .given .1) (c .if1 .left),
       observed-found (s .args .noise .now) (s .args .weighted) (s .args .domains .now) (s .args .floats .now) (s .args .marks .now) (s .pre .1 .1 .1 .marked) (saw .observe .ensures .1),
     )
 
@@ -158,17 +141,17 @@ turn-spec =
     (tie.spec
     observe-requires
     enum-told
-    decided-requires
-    same-length
-    same-length-2
-    same-length-3
-    returns
+    still-end-requires
     enum-known-cell
     mul-choose-at
     shared-slice-read-choose-at
     choose-at-requires
+    same-length
+    same-length-2
+    same-length-3
     same-length-4
     same-length-5
+    returns
     same-length-6
     same-length-7
     same-length-8
@@ -176,8 +159,4 @@ turn-spec =
     same-length-9
     same-length-10
     same-length-11
-    returns-3
-    same-length-12
-    same-length-13
-    same-length-14
-    returns-4)
+    returns-3)

@@ -1,63 +1,84 @@
--- `run::start::begin_floats` meets its contract: all the first entropy, then the first half the running value.
+-- `run::start::begin_floats` meets its contract: as many logarithms are laid out as the whole weight, or all.
 -- Assumes nothing.
-use mathlib.Core.List.{_++_}
-use mathlib.Core.Path.{ap, _∙_}
-use lib.Ieee.{Float}
-use lib.ListN.{replicate}
+use mathlib.Core.Path.{_≡_, sym, ap, _∙_}
+use native.Mathlib.Omega.{arith}
 use borrow.Author.Needs.{needs}
-use Rattle.logarithms.specs.Entropy.{running}
-use Rattle.run.proofs.StartLaws.{fill-halves}
+use Rattle.words.specs.Words.{full}
+use Rattle.adjacency.specs.Weights.{wholeWeight}
+use Rattle.words.proofs.BitLaws.{full-lt}
+use Rattle.adjacency.proofs.WeightLaws.{weighed-bounded}
+use Rattle.logarithms.proofs.LogLaws.{logs-long, logs-front}
+use Rattle.run.proofs.StepLaws.{four-few}
+use Rattle.run.proofs.StartLaws.{sum-whole}
 use Rattle.run.proofs.start.begin_floats.Statement.{statement}
 use Rattle.run.proofs.start.begin_floats.Tie as tie
 
-logs-requires : tie.Need-logs-requires
-logs-requires c κs = search needs
+full-word-requires : tie.Need-full-word-requires
+full-word-requires c κs = search needs
 
-slice-aggregate-running : tie.Need-slice-aggregate-running
-slice-aggregate-running c = search needs
+weight-sum-requires : tie.Need-weight-sum-requires
+weight-sum-requires c κs =
+    let s = c .before .before .before in
+    let (_, few, W, _, _) = s .pre in
+    weighed-bounded {w = c .full-word .result} W few (omega (arith, c .full-word .ensures, full-lt (s .args .count)))
 
-running-requires : tie.Need-running-requires
-running-requires c κs = (c .before .logs .ensures, c .before .before .before .before .pre .2 .light)
+-- what is summed is the whole weight
+whole : (c : tie.After-weight-sum) → c .weight-sum .result ≡ wholeWeight (c .before .before .before .before .args .weights .now)
+whole c = sum-whole (c .before .before .before .before .args .weights .now) (c .before .full-word .ensures ∙ ap full (sym (c .before .before .before .before .pre .2 .one-each))) (c .weight-sum .ensures)
 
-slice-aggregate-first-entropy : tie.Need-slice-aggregate-first-entropy
-slice-aggregate-first-entropy c = search needs
+few-logs-requires : tie.Need-few-logs-requires
+few-logs-requires c κs = search needs
 
-first-entropy-requires : tie.Need-first-entropy-requires
-first-entropy-requires c κs =
-    let (some, few, weighed, masked, _) = c .before .before .before .before .before .before .pre in
-    (c .before .before .before .logs .ensures, some, few, weighed, masked, c .before .running .ensures)
+slice-aggregate-lay-floats : tie.Need-slice-aggregate-lay-floats
+slice-aggregate-lay-floats c = search needs
 
-fill-floats-requires : tie.Need-fill-floats-requires
-fill-floats-requires c κs = search needs
-
-fill-floats-requires-2 : tie.Need-fill-floats-requires-2
-fill-floats-requires-2 c κs = search needs
+lay-floats-requires : tie.Need-lay-floats-requires
+lay-floats-requires c κs =
+    let summed = c .before .before .before .before in
+    let s = c .before .before .before .before .before .before .before .before in
+    let (_, few, W, masked, long) = s .pre in
+    let (front, many) = c .before .before .few-logs .ensures in
+    ((front, four-few few W .0, masked, whole summed, omega (arith, many, c .before .before .before .if1 .taken)), long)
 
 same-length : tie.Need-same-length
 same-length c = search needs
 
 returns : tie.Need-returns
-returns c =
-    let filled = c .before .before .before .before .before .before in
-    let entropy = filled .before .before .first-entropy in
-    let value = filled .before .before .before .before .running in
-    let s = filled .before .before .before .before .before .before .before .before .before in
-    let n = s .args .cells in
-    let (_, _, _, _, long) = s .pre in
-    fill-halves (value .result) (entropy .result) n (s .args .floats .now) long (filled .fill-floats .ensures) (c .before .before .fill-floats2 .ensures)
-    ∙ ap (λ (x : Float). replicate n x ++ replicate n (entropy .result)) (value .ensures)
-    ∙ ap (λ (x : Float). replicate n (running (s .args .weights .now)) ++ replicate n x) (entropy .ensures)
+returns c = c .before .before .lay-floats .ensures
+
+logs-requires : tie.Need-logs-requires
+logs-requires c κs = search needs
+
+slice-aggregate-lay-floats-2 : tie.Need-slice-aggregate-lay-floats-2
+slice-aggregate-lay-floats-2 c = search needs
+
+lay-floats-requires-2 : tie.Need-lay-floats-requires-2
+lay-floats-requires-2 c κs =
+    let summed = c .before .before .before .before in
+    let s = c .before .before .before .before .before .before .before .before in
+    let (_, few, W, masked, long) = s .pre in
+    let lent = c .before .before .logs .ensures in
+    ((logs-front _ lent, four-few few W .0, masked, whole summed, omega (arith, whole summed, W .light, logs-long _ lent)), long)
+
+same-length-2 : tie.Need-same-length-2
+same-length-2 c = search needs
+
+returns-2 : tie.Need-returns-2
+returns-2 c = c .before .before .lay-floats2 .ensures
 
 pub begin-floats-spec : {M : Type 1} → statement M
 begin-floats-spec =
     tie.close
     (tie.spec
-    logs-requires
-    slice-aggregate-running
-    running-requires
-    slice-aggregate-first-entropy
-    first-entropy-requires
-    fill-floats-requires
-    fill-floats-requires-2
+    full-word-requires
+    weight-sum-requires
+    few-logs-requires
+    slice-aggregate-lay-floats
+    lay-floats-requires
     same-length
-    returns)
+    returns
+    logs-requires
+    slice-aggregate-lay-floats-2
+    lay-floats-requires-2
+    same-length-2
+    returns-2)
