@@ -1,10 +1,10 @@
--- One note for each cell decides: a note of an earlier state that would count now is the cell's note still, for a new one is written only after a weighted
--- pattern went from the cell. Follows docs/RULES.md, "Run" and "Propagation". Assumes nothing.
+-- One note for each cell decides: a note that does not count at a state of a run counts at no later one, and one that would count later is the cell's note
+-- still, for a new one is written only after a weighted pattern went from the cell. Follows docs/RULES.md, "Run" and "Propagation". Assumes nothing.
 use mathlib.Core.Bool.{Bool, true, false, cond}
-use mathlib.Core.List.{List}
+use mathlib.Core.List.{List, [], _∷_, _++_}
 use mathlib.Core.Logic.{_⊎_, inl, inr}
-use mathlib.Core.Path.{_≡_, refl, sym, _∙_, subst}
-use Prim.Native.Nat.{ℕ, zero, suc, _+_, _-_, _*_, _≤_, _<_}
+use mathlib.Core.Path.{_≡_, refl, sym, ap, _∙_, subst}
+use Prim.Native.Nat.{ℕ, zero, suc, _+_, _-_, _*_, _^_, _≤_, _<_}
 use native.Mathlib.Decide.{ℕ-discrete, decLt}
 use native.Mathlib.Nat.{le-refl, mul-le-mul}
 use native.Mathlib.Omega.{arith}
@@ -13,6 +13,7 @@ use lib.Ieee.{Float, nan}
 use lib.ListN.{length, getD, set, take, replicate, length-set, length-append, length-replicate, length-take, List·getD-append}
 use lib.Seq.{getD-set-other, getD-take, getD-drop}
 use Rattle.words.specs.Words.{bit, howMany}
+use Rattle.adjacency.specs.Accepted.{Accepted}
 use Rattle.adjacency.specs.Weights.{weightOf, weightSum, weighted, mask}
 use Rattle.grid.specs.Grid.{cells}
 use Rattle.logarithms.specs.Entropy.{entropy}
@@ -21,23 +22,24 @@ use Rattle.consistency.specs.Worklist.{Removal, State, forbids}
 use Rattle.consistency.specs.Start.{others}
 use Rattle.consistency.specs.Safe.{Inside}
 use Rattle.propagation.specs.Beside.{Beside, weightedIn, lessenedBy, lessened, proposes, noted, proposing, kept, unmarked}
-use Rattle.choice.specs.Observer.{valid, entropyAt}
+use Rattle.choice.specs.Observer.{valid, countsAt, entropyAt}
 use Rattle.run.specs.declared.Forbid.{Forbid}
-use Rattle.run.specs.Run.{Given, reducedBy, notesOf}
-use Rattle.run.specs.Course.{Lawful, Reached, forbade, chose}
+use Rattle.run.specs.Run.{Given, begun, reducedBy, asked, laid, laidAll, notesOf, Turn, turn}
+use Rattle.run.specs.Course.{Placed, Lawful, fullLess, wanted, Reached, forbade, chose}
 use Rattle.loops.proofs.SumLaws.{sum-less}
 use Rattle.words.proofs.BitLaws.{bit-and}
 use Rattle.adjacency.proofs.WeightLaws.{weight-inside, weighted-true, weight-mask}
 use Rattle.consistency.proofs.RemovalLaws.{others-inside}
 use Rattle.consistency.proofs.Keep.{removed-less, safe-forbids}
-use Rattle.consistency.proofs.Settled.{Ready}
+use Rattle.consistency.proofs.Settled.{Ready, Settled}
 use Rattle.consistency.proofs.SettledLaws.{safe-beside}
 use Rattle.propagation.proofs.BesideLaws.{proposes-weight, weighted-64}
 use Rattle.choice.proofs.ObserverLaws.{valid-counts}
 use Rattle.run.proofs.TurnLaws.{turn-on}
-use Rattle.run.proofs.StateLaws.{reached-stands, reached-ready}
+use Rattle.run.proofs.StateLaws.{asked-inside, reducedBy-settled, forbade-settled, reached-stands, reached-ready}
+use Rattle.run.proofs.StageLaws.{laidAll-append}
 use Rattle.consistency.proofs.KeptLaws.{Endures, endures-forbids, endures-propagated}
-use Rattle.laws.proofs.StaleLaws.{weighted-sub, removed-le, reached-above, reached-one}
+use Rattle.laws.proofs.StaleLaws.{weighted-sub, removed-le, Above, reached-above, stale}
 
 -- ---- a weighted pattern goes
 
@@ -149,7 +151,7 @@ module _ (ws : List ℕ) (n : ℕ) (D₀ : List ℕ) (x₀ : Beside) where
 
 -- ---- along a course
 
-module _ (i : Given) (fs : List Forbid) (L : Lawful i fs) (D₀ : List ℕ) (x₀ : Beside) where
+module _ (i : Given) (A : Accepted (i .table)) (D₀ : List ℕ) (x₀ : Beside) where
   abbrev Then : State Beside → Type 0
   Then s = Since (i .weights) (cells (i .grid)) D₀ x₀ (s .domains) (s .beside)
 
@@ -159,42 +161,134 @@ module _ (i : Given) (fs : List Forbid) (L : Lawful i fs) (D₀ : List ℕ) (x�
       let P = i .table .count in
       let n = cells (i .grid) in
       let r = forbids P (lessened (i .weights)) us s in
-      endures-propagated (i .table) (i .grid) (L .accepted) (kept (i .weights) (i .noise) n) (Since (i .weights) n D₀ x₀) (since-kept (i .weights) n D₀ x₀ P (i .noise)) (n * P) _
+      endures-propagated (i .table) (i .grid) A (kept (i .weights) (i .noise) n) (Since (i .weights) n D₀ x₀) (since-kept (i .weights) n D₀ x₀ P (i .noise)) (n * P) _
       (safe-beside r (unmarked n (r .beside)) P n (n * P) (safe-forbids P n (n * P) (lessened (i .weights)) us s h (R .safe)))
       (since-renewed (i .weights) n D₀ x₀ (r .domains) (r .beside)
       (endures-forbids P n (n * P) (lessened (i .weights)) (Since (i .weights) n D₀ x₀) (since-asked (i .weights) n D₀ x₀ P) us s h S))
 
-module _ (i : Given) (fs : List Forbid) (L : Lawful i fs) (words : List ℕ) {k used : ℕ} {s : State Beside} (r : Reached i fs words k used s) where
-  -- since a state that is reached, at a later one
-  abbrev Later : State Beside → Type 0
-  Later = Then i fs L (s .domains) (s .beside)
+  -- through forbids, of which the one that empties a cell is the last that is laid
+  since-laid : (fs : List Forbid) (s : State Beside) → Placed (i .table .count) (cells (i .grid)) fs → (s .empty ≡ false → Ready (i .table) (i .grid) s) → Then s
+      → Then (laidAll i fs s)
+  unfolding laidAll laid
+  since-laid [] s h R S = S
+  since-laid (f ∷ fs) s h R S =
+      let us = asked (i .table .count) f in
+      let inside = asked-inside (i .table .count) (cells (i .grid)) f (h .0) (h .1) in
+      either (s .empty) refl (λ e. since-laid fs (laid i f s) (h .2) (reducedBy-settled i A us s inside (R e) .ready) (since-reduced us s inside (R e) S))
+    where
+      either : (b : Bool) → s .empty ≡ b → (s .empty ≡ false → Then (laidAll i fs (laid i f s))) → Then (cond b s (laidAll i fs (laid i f s)))
+      either true e k = S
+      either false e k = k e
 
-  since-itself : Later s
-  since-itself = record { part = λ c p. le-refl _; long = reached-above i r .long; held = λ c h. inl (refl, refl) }
+-- ---- earlier and later states
 
-  since-equal : {k′ used′ : ℕ} {s′ : State Beside} → k ≡ k′ → Reached i fs words k′ used′ s′ → Later s′
-  since-equal z r′ = subst Later (reached-one i fs words (subst (λ (j : ℕ). Reached i fs words j used s) z r) r′ .1) since-itself
+module _ (i : Given) (fs : List Forbid) (words : List ℕ) where
+  -- the run visits a state: after the first of its forbids and no choice, or after all of them and so many choices
+  pub data Visited : ℕ → State Beside → Type 0 where
+    among : (gs hs : List Forbid) → gs ++ hs ≡ fs → Visited 0 (laidAll i gs (begun i))
+    after : {k used : ℕ} {s : State Beside} → Reached i fs words k used s → Visited k s
 
-  since-reached : {k′ used′ : ℕ} {s′ : State Beside} → Reached i fs words k′ used′ s′ → k ≤ k′ → Later s′
-  since-reached forbade h = since-equal (omega (arith, h)) forbade
-  since-reached (chose {k = k″} {used = u} {more = m} {s = a} {s′ = b} r′ q) h =
+  -- the start, where the first notes are, comes before all forbids
+  pub visited-begun : Visited 0 (begun i)
+  unfolding laidAll
+  visited-begun = among [] fs refl
+
+  visited-above : {k : ℕ} {s : State Beside} → Visited k s → Above (i .weights) (cells (i .grid)) (s .domains) (s .beside)
+  visited-above (among gs hs e) = reached-above i {fs = gs} {words = words} forbade
+  visited-above (after r) = reached-above i r
+
+placed-parts : (P n : ℕ) (fs gs : List Forbid) → Placed P n (fs ++ gs) → Placed P n fs × Placed P n gs
+placed-parts P n [] gs h = (tt, h)
+placed-parts P n (f ∷ fs) gs h = let (a, b) = placed-parts P n fs gs (h .2) in ((h .0, h .1, a), b)
+
+-- the words used and the state where a turn goes on
+usedIn : Turn → ℕ
+usedIn (Turn.over e) = 0
+usedIn (Turn.on used s) = used
+
+stateOr : State Beside → Turn → State Beside
+stateOr d (Turn.over e) = d
+stateOr d (Turn.on used s) = s
+
+module _ (i : Given) (fs : List Forbid) (words : List ℕ) where
+  -- so many choices lead to one state
+  reached-one : {k used used′ : ℕ} {s s′ : State Beside} → Reached i fs words k used s → Reached i fs words k used′ s′ → (used ≡ used′) × (s ≡ s′)
+  unfolding usedIn stateOr
+  reached-one forbade forbade = (refl, refl)
+  reached-one (chose {s′ = b} r e) (chose r′ e′) =
+      let (x, y) = reached-one r r′ in
+      let same = sym e ∙ (λ j. turn i words (x j) (y j)) ∙ e′ in
+      (ap usedIn same, ap (stateOr b) same)
+
+module _ (i : Given) (fs : List Forbid) (L : Lawful i fs) (words : List ℕ) where
+  module _ (gs hs : List Forbid) (e : gs ++ hs ≡ fs) where
+    among-placed : Placed (i .table .count) (cells (i .grid)) gs × Placed (i .table .count) (cells (i .grid)) hs
+    among-placed = placed-parts _ _ gs hs (rw e (L .placed))
+
+    among-settled : Settled (i .table) (i .grid) (fullLess i (wanted (i .table .count) gs)) (laidAll i gs (begun i))
+    among-settled = forbade-settled i gs (record { accepted = L .accepted; weighed = L .weighed; placed = among-placed .0 })
+
+  visited-words : {k : ℕ} {s : State Beside} → Visited i fs words k s → (c : ℕ) → getD (s .domains) c 0 < 2 ^ i .table .count
+  visited-words (among gs hs e) = among-settled gs hs e .safe .fit .words
+  visited-words (after r) = reached-stands i fs L r .settled .safe .fit .words
+
+  -- since a state that the run visits, at a later one
+  abbrev Later : State Beside → State Beside → Type 0
+  Later s = Then i (L .accepted) (s .domains) (s .beside)
+
+  since-itself : {k : ℕ} {s : State Beside} → Visited i fs words k s → Later s s
+  since-itself m = record { part = λ c p. le-refl _; long = visited-above i fs words m .long; held = λ c h. inl (refl, refl) }
+
+  since-forbade : (gs hs : List Forbid) → gs ++ hs ≡ fs → Later (laidAll i gs (begun i)) (laidAll i fs (begun i))
+  since-forbade gs hs e =
+      let s = laidAll i gs (begun i) in
+      subst (Later s) (sym (laidAll-append i gs hs (begun i)) ∙ ap (λ (all : List Forbid). laidAll i all (begun i)) e)
+      (since-laid i (L .accepted) (s .domains) (s .beside) hs s (among-placed gs hs e .1) (among-settled gs hs e .ready) (since-itself (among gs hs e)))
+
+  since-equal : {k k′ used′ : ℕ} {s s′ : State Beside} → Visited i fs words k s → Reached i fs words k′ used′ s′ → k ≡ k′ → Later s s′
+  since-equal (among gs hs e) forbade z = since-forbade gs hs e
+  since-equal (among gs hs e) (chose r q) z = absurd (omega (arith, z))
+  since-equal (after {k} {used} {s} r) r′ z =
+      subst (Later s) (reached-one i fs words (subst (λ (j : ℕ). Reached i fs words j used s) z r) r′ .1) (since-itself (after r))
+
+  since-reached : {k k′ used′ : ℕ} {s s′ : State Beside} → Visited i fs words k s → Reached i fs words k′ used′ s′ → k ≤ k′ → Later s s′
+  since-reached m forbade h = since-equal m forbade (omega (arith, h))
+  since-reached {k} {s = s} m (chose {k = k″} {used = u} {more = more} {s = a} {s′ = b} r q) h =
       let c = turn-on i words u a q in
-      let inside = others-inside (i .table .count) (cells (i .grid)) (c .cell) (c .pattern) (omega (arith, c .inside, reached-stands i fs L r′ .settled .safe .fit .sized)) in
+      let inside = others-inside (i .table .count) (cells (i .grid)) (c .cell) (c .pattern) (omega (arith, c .inside, reached-stands i fs L r .settled .safe .fit .sized)) in
       go (decLt k (suc k″))
       (λ l.
       rw (c .made)
-      (since-reduced i fs L (s .domains) (s .beside) (others (i .table .count) (c .cell) (c .pattern)) a inside (reached-ready i fs L r′ (c .whole)) (since-reached r′ l)))
+      (since-reduced i (L .accepted) (s .domains) (s .beside) (others (i .table .count) (c .cell) (c .pattern)) a inside (reached-ready i fs L r (c .whole)) (since-reached m r l)))
     where
-      go : Dec (k < suc k″) → (k ≤ k″ → Later b) → Later b
+      go : Dec (k < suc k″) → (k ≤ k″ → Later s b) → Later s b
       go (yes l) f = f (omega (arith, l))
-      go (no l) f = since-equal (omega (arith, h, l)) (chose {k = k″} {used = u} {more = m} {s = a} {s′ = b} r′ q)
+      go (no l) f = since-equal m (chose {k = k″} {used = u} {more = more} {s = a} {s′ = b} r q) (omega (arith, h, l))
+
+-- ---- an old note
+
+module _ (i : Given) (fs : List Forbid) (L : Lawful i fs) (words : List ℕ) {k k′ used′ : ℕ} {s s′ : State Beside} (m : Visited i fs words k s) (r : Reached i fs words k′ used′ s′)
+    (later : k ≤ k′) where
+  since : Later i fs L words s s′
+  since = since-reached i fs L words m r later
+
+  -- a cell's weighted count never rises
+  pub weighted-falls : (c : ℕ) → weightedIn (i .weights) (getD (s′ .domains) c 0) ≤ weightedIn (i .weights) (getD (s .domains) c 0)
+  weighted-falls c = weighted-sub (length (i .weights)) (getD (s′ .domains) c 0) (getD (s .domains) c 0) (mask (i .weights)) (since .part c)
+
+  -- a note that does not count at a state counts at no later one
+  pub note-stale : (c : ℕ) → c < cells (i .grid) → countsAt (notesOf i s) c ≡ false
+      → valid (getD (notesOf i s .counts) c 0) (getD (s′ .domains) c 0) (mask (i .weights)) ≡ false
+  unfolding notesOf
+  note-stale c h f =
+      stale (L .weighed) (L .accepted .few) _ (getD (s′ .domains) c 0) (getD (s .domains) c 0) (visited-words i fs L words m c) (since .part c)
+      (rw (getD-take (cells (i .grid)) (s .beside .marks) c 0 h) (visited-above i fs words m .above c h)) f
 
   -- a note that would count at a later state is the cell's note there
-  pub note-held : {k′ used′ : ℕ} {s′ : State Beside} → Reached i fs words k′ used′ s′ → k ≤ k′ → (c : ℕ) → c < cells (i .grid)
-      → valid (getD (notesOf i s .counts) c 0) (getD (s′ .domains) c 0) (mask (i .weights)) ≡ true
+  pub note-held : (c : ℕ) → c < cells (i .grid) → valid (getD (notesOf i s .counts) c 0) (getD (s′ .domains) c 0) (mask (i .weights)) ≡ true
       → (getD (notesOf i s′ .counts) c 0 ≡ getD (notesOf i s .counts) c 0) × (entropyAt (notesOf i s′) c ≡ entropyAt (notesOf i s) c)
   unfolding notesOf
-  note-held {s′ = s′} r′ l c h e = go (since-reached r′ l .held c h)
+  note-held c h e = go (since .held c h)
     where
       n : ℕ
       n = cells (i .grid)
@@ -217,6 +311,6 @@ module _ (i : Given) (fs : List Forbid) (L : Lawful i fs) (words : List ℕ) {k 
             less,
             C .weighted,
             is,
-            weighted-64 (L .weighed) (L .accepted .few) (getD (s′ .domains) c 0) (reached-stands i fs L r′ .settled .safe .fit .words c),
-            reached-above i r .above c h (λ z. C .noted (is ∙ z)),
+            weighted-64 (L .weighed) (L .accepted .few) (getD (s′ .domains) c 0) (reached-stands i fs L r .settled .safe .fit .words c),
+            visited-above i fs words m .above c h (λ z. C .noted (is ∙ z)),
           ))
