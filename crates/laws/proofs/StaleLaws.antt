@@ -1,10 +1,10 @@
--- An old note never counts again: along a course a cell's weighted count never rises, and no note's count is below it, so a note that does not count
--- at a state counts at no later one. Follows docs/RULES.md, "Run". Assumes nothing.
+-- No note's count is below the weighted count of its cell, at any state that a run reaches; and such a count, where it does not count, counts for no part of
+-- the cell's word. Follows docs/RULES.md, "Run". Assumes nothing.
 use mathlib.Core.Bool.{Bool, true, false, cond, true≢false}
 use mathlib.Core.List.{List, [], _∷_}
-use mathlib.Core.Path.{_≡_, refl, sym, ap, _∙_, subst}
+use mathlib.Core.Path.{_≡_, refl, sym, _∙_, subst}
 use Prim.Native.Nat.{ℕ, zero, suc, _+_, _-_, _*_, _^_, _≤_, _<_}
-use native.Mathlib.Decide.{ℕ-discrete, decLt}
+use native.Mathlib.Decide.{ℕ-discrete}
 use native.Mathlib.Nat.{le-refl, mul-le-mul}
 use native.Mathlib.Omega.{arith}
 use lib.Bits.{bitAnd}
@@ -17,27 +17,23 @@ use Rattle.words.specs.Words.{bit, howMany}
 use Rattle.adjacency.specs.Weights.{Weighed, weightOf, weightSum, mask}
 use Rattle.grid.specs.Grid.{cells}
 use Rattle.logarithms.specs.Entropy.{entropy}
-use Rattle.logarithms.specs.Notes.{noteOf}
-use Rattle.logarithms.specs.Notes.{note, lowered}
+use Rattle.logarithms.specs.Notes.{noteOf, note, lowered}
 use Rattle.logarithms.specs.declared.inner.Note.{Note}
-use Rattle.consistency.specs.Domains.{possible, removed, Sub, filled}
+use Rattle.consistency.specs.Domains.{possible, removed, filled}
 use Rattle.consistency.specs.Worklist.{Removal, removal, State}
 use Rattle.consistency.specs.Start.{start}
 use Rattle.consistency.specs.Parts.{lessened as without}
 use Rattle.propagation.specs.Beside.{Beside, weightedIn, lessenedBy, lessened, proposes, proposed, written, noted, proposing, kept, unmarked}
-use Rattle.choice.specs.Observer.{valid, countsAt}
+use Rattle.choice.specs.Observer.{valid}
 use Rattle.run.specs.declared.Forbid.{Forbid}
-use Rattle.run.specs.Run.{Given, firstCount, firstBeside, begun, notesOf, Turn, turn}
-use Rattle.run.specs.Course.{Lawful, Reached, forbade, chose}
+use Rattle.run.specs.Run.{Given, firstCount, firstBeside, begun}
+use Rattle.run.specs.Course.{Reached}
 use Rattle.words.proofs.BitLaws.{bit-and, bit-lt}
 use Rattle.words.proofs.CountLaws.{many-sub}
 use Rattle.consistency.proofs.DomainLaws.{sub-le}
 use Rattle.consistency.proofs.LessenedLaws.{sub-lessened}
 use Rattle.propagation.proofs.BesideLaws.{weighted-64}
 use Rattle.choice.proofs.ObserverLaws.{valid-counts}
-use Rattle.run.proofs.TurnLaws.{turn-on}
-use Rattle.run.proofs.StateLaws.{reached-stands}
-use Rattle.run.proofs.CourseLaws.{chosen-sub}
 use Rattle.run.proofs.KeptCourse.{Lasts, holds-reached}
 
 -- ---- weighted counts
@@ -174,40 +170,6 @@ unfolding begun start
 reached-above i r =
     holds-reached i (Above (i .weights) (cells (i .grid))) (above-lasts i) (above-first (i .weights) (cells (i .grid)) (filled (i .table .count) (cells (i .grid)))) r
 
--- ---- later states
-
--- the words used and the state where a turn goes on
-usedIn : Turn → ℕ
-usedIn (Turn.over e) = 0
-usedIn (Turn.on used s) = used
-
-stateOr : State Beside → Turn → State Beside
-stateOr d (Turn.over e) = d
-stateOr d (Turn.on used s) = s
-
-module _ (i : Given) (fs : List Forbid) (words : List ℕ) where
-  -- so many choices lead to one state
-  pub reached-one : {k used used′ : ℕ} {s s′ : State Beside} → Reached i fs words k used s → Reached i fs words k used′ s′ → (used ≡ used′) × (s ≡ s′)
-  unfolding usedIn stateOr
-  reached-one forbade forbade = (refl, refl)
-  reached-one (chose {s′ = b} r e) (chose r′ e′) =
-      let (x, y) = reached-one r r′ in
-      let same = sym e ∙ (λ j. turn i words (x j) (y j)) ∙ e′ in
-      (ap usedIn same, ap (stateOr b) same)
-
-  -- none restores a pattern
-  pub reached-sub : Lawful i fs → {k used k′ used′ : ℕ} {s s′ : State Beside} → Reached i fs words k used s → Reached i fs words k′ used′ s′ → k ≤ k′ → s′ .empty ≡ false
-      → Sub (s′ .domains) (s .domains)
-  reached-sub L {k} {used} {s = s} r forbade h e = rw (reached-one (subst (λ (j : ℕ). Reached i fs words j used s) (omega (arith, h)) r) forbade .1) (λ c p z. z)
-  reached-sub L {k} {used} {s = s} r (chose {k = k″} {used = u} {more = m} {s = a} {s′ = b} r′ q) h e =
-      let c = turn-on i words u a q in
-      go (decLt k (suc k″)) (λ l. reached-sub L r r′ l (c .whole)) (chosen-sub i fs L words u a (reached-stands i fs L r′) m b c e)
-    where
-      go : Dec (k < suc k″) → (k ≤ k″ → Sub (a .domains) (s .domains)) → Sub (b .domains) (a .domains) → Sub (b .domains) (s .domains)
-      go (yes l) f g = λ c p z. f (omega (arith, l)) c p (g c p z)
-      go (no l) f g =
-          rw (reached-one (subst (λ (j : ℕ). Reached i fs words j used s) (omega (arith, h, l)) r) (chose {k = k″} {used = u} {more = m} {s = a} {s′ = b} r′ q) .1) (λ c p z. z)
-
 -- ---- an old note
 
 valid-of : (count w m : ℕ) → (count ≡ 0 → ⊥) → howMany 64 (bitAnd w m) ≡ count → 2 ≤ howMany 64 w → valid count w m ≡ true
@@ -215,7 +177,7 @@ unfolding valid
 valid-of count w m a b c = rw (ne-eqb count 0 a, eq-eqb (howMany 64 (bitAnd w m)) count b, le-leb 2 (howMany 64 w) c)
 
 -- a count that is not below the weighted count of a word, and does not count there, counts for no part of it
-stale : {P : ℕ} {ws : List ℕ} → Weighed P ws → P ≤ 64 → (count v w : ℕ) → w < 2 ^ P → ((p : ℕ) → bit v p ≤ bit w p) → ((count ≡ 0 → ⊥) → weightedIn ws w ≤ count)
+pub stale : {P : ℕ} {ws : List ℕ} → Weighed P ws → P ≤ 64 → (count v w : ℕ) → w < 2 ^ P → ((p : ℕ) → bit v p ≤ bit w p) → ((count ≡ 0 → ⊥) → weightedIn ws w ≤ count)
     → valid count w (mask ws) ≡ false → valid count v (mask ws) ≡ false
 stale {P} {ws} W few count v w l part above f = go (valid count v (mask ws)) refl
   where
@@ -229,20 +191,3 @@ stale {P} {ws} W few count v w l part above f = go (valid count v (mask ws)) ref
         (valid-of count w (mask ws) (C .noted) (omega (arith, C .weighted, above (C .noted), weighted-64 W few w l, weighted-sub 64 v w (mask ws) part))
         (omega (arith, C .several, many-sub 64 v w part)))
         ∙ f))
-
-module _ (i : Given) (fs : List Forbid) (L : Lawful i fs) (words : List ℕ) {k used k′ used′ : ℕ} {s s′ : State Beside} (r : Reached i fs words k used s) (r′ : Reached i fs words k′ used′ s′)
-    (later : k ≤ k′) (e : s′ .empty ≡ false) where
-  part : (c p : ℕ) → possible (s′ .domains) c p ≤ possible (s .domains) c p
-  part = sub-le (s′ .domains) (s .domains) (reached-sub i fs words L r r′ later e)
-
-  -- a cell's weighted count never rises
-  pub weighted-falls : (c : ℕ) → weightedIn (i .weights) (getD (s′ .domains) c 0) ≤ weightedIn (i .weights) (getD (s .domains) c 0)
-  weighted-falls c = weighted-sub (length (i .weights)) (getD (s′ .domains) c 0) (getD (s .domains) c 0) (mask (i .weights)) (part c)
-
-  -- a note that does not count at a state counts at no later one
-  pub note-stale : (c : ℕ) → c < cells (i .grid) → countsAt (notesOf i s) c ≡ false
-      → valid (getD (notesOf i s .counts) c 0) (getD (s′ .domains) c 0) (mask (i .weights)) ≡ false
-  unfolding notesOf
-  note-stale c h f =
-      stale (L .weighed) (L .accepted .few) _ (getD (s′ .domains) c 0) (getD (s .domains) c 0) (reached-stands i fs L r .settled .safe .fit .words c) (part c)
-      (rw (getD-take (cells (i .grid)) (s .beside .marks) c 0 h) (reached-above i r .above c h)) f
