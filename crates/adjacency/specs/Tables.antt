@@ -24,11 +24,11 @@ part a e l = take (e - a) (drop a l)
 unfoldable pub listAt : Table → ℕ → List ℕ
 listAt t k = part (getD (t .offsets) k 0) (getD (t .offsets) (k + 1) 0) (t .ids)
 
--- what may stand in direction d of p: list 4p + d
+-- what p allows beside it in direction d: list 4p + d
 unfoldable pub listOf : Table → ℕ → ℕ → List ℕ
 unfolding listAt
 listOf t p d = listAt t (4 * p + d)
 
--- q may stand in direction d of p
+-- p allows q beside it in direction d
 abbrev pub inList : Table → ℕ → ℕ → ℕ → Type 0
 inList t p d q = T (elem q (listOf t p d))

@@ -199,7 +199,7 @@ fn list_at<'a>(count: usize, offsets: &[u32], ids: &'a [u8], k: usize) -> &'a [u
     &ids[start..end]
 }
 
-// What may stand in direction d of p: that part of the ids.
+// What p allows beside it in direction d: that part of the ids.
 pub fn list_of<'a>(count: usize, offsets: &[u32], ids: &'a [u8], p: usize, d: usize) -> &'a [u8]
     requires { ⌜ Laid (table count (now offsets) (now ids)) × (p < count) × (d < 4) ⌝ }
     ensures { λ r. ⌜ now r ≡ listOf (table count (now (offsets .entry)) (now (ids .entry))) p d ⌝ }

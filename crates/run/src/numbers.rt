@@ -64,7 +64,7 @@ fn lay_numbers(
     next
 }
 
-// A run: refused, or from the forbids to its end.
+// A run: refused, or from the forbids to its end. Lengths are those of `run`, with three numbers for each forbid.
 pub fn run_numbers(
     forbids: &[u32],
     count: usize,

@@ -46,6 +46,7 @@ pub fn sizes(sheet: &[u8]) -> SizesAnswer
 }
 
 // The sheet's weights, offsets, ids and forbids in the lent slices, and how much it holds.
+// Lengths: P weights and 4 P + 1 offsets, as many ids as the sheet has or more, three numbers for each of its forbids or more.
 pub fn read(
     sheet: &[u8],
     weights: &mut [u32],

@@ -41,6 +41,7 @@ fn lay_answer(answer: Answer, domains: &[u64], out: &mut [u8])
 }
 
 // A run as `run::run_numbers` does it, with its result at the front of `out`; three numbers for each forbid.
+// Lengths are those of `run`, and for `out` 10 bytes and 8 for each cell or more.
 pub fn run_result(
     forbids: &[u32],
     count: usize,
