@@ -105,7 +105,7 @@ pub open-none : (cells : ℕ) (p : Page) → cells ≡ 0 → p ≡ put (openText
 unfolding openText
 open-none cells p z = simp (eq-eqb cells 0 z) (sym (put-none p))
 
-pub open-put : (cells : ℕ) (p q r s : Page) → (cells ≡ 0 → ⊥) → q ≡ put (ascii "  n") p → r ≡ put (padded 6 cells) q → s ≡ put (ascii "  undecided: n patterns remain\n") r → s ≡ put (openText cells) p
+pub open-put : (cells : ℕ) (p q r s : Page) → (cells ≡ 0 → ⊥) → q ≡ put (ascii " 2+") p → r ≡ put (padded 6 cells) q → s ≡ put (ascii "  undecided: the number says how many patterns remain\n") r → s ≡ put (openText cells) p
 unfolding openText
 open-put cells p q r s z e f g = simp (ne-eqb cells 0 z) (puts _ _ _ _ _ (puts _ _ _ _ _ e f) g)
 

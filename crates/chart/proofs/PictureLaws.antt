@@ -16,7 +16,7 @@ use Rattle.text.proofs.PageLaws.{put-none, puts}
 use Rattle.chart.specs.Signs.{joinsX, joinsY}
 use Rattle.chart.specs.Tallies.{tally, alike}
 use Rattle.chart.specs.Chart.{rowCount, rowOf, endText, labelText}
-use Rattle.chart.specs.Picture.{part, colourText, squareText, fillText, toldText, markText, tilesText, pictureRow, beneath, breadth, strokeText, uprightText, levelText, sizeText, footText, captionText, swatchText, shownText, tailText}
+use Rattle.chart.specs.Picture.{part, colourText, squareText, fillText, toldText, markText, tilesText, pictureRow, beneath, breadth, strokeText, uprightText, levelText, sizeText, keyText, footText, captionText, swatchText, shownText, tailText}
 
 -- ---- parts in a row, with what they were made of
 
@@ -28,9 +28,9 @@ pub size-put : (width height wide high : ℕ) (p q1 q2 q3 q4 q5 : Page) → wide
 unfolding sizeText
 size-put width height wide high p q1 q2 q3 q4 q5 e1 e2 h1 h2 h3 h4 h5 = rw (← e1, ← e2) (puts _ _ _ _ _ (puts _ _ _ _ _ (puts _ _ _ _ _ (puts _ _ _ _ _ h1 h2) h3) h4) h5)
 
-pub foot-put : (height end words below : ℕ) (p q1 q2 q3 q4 q5 : Page) → below ≡ beneath height 1 → q1 ≡ put (ascii "</text>\n<text x=\"0\" y=\"") p → q2 ≡ put (decimal below) q1 → q3 ≡ put (ascii "\">") q2 → q4 ≡ put (endText end words) q3 → q5 ≡ put (ascii "</text>\n") q4 → q5 ≡ put (footText height end words) p
+pub foot-put : (height end words below : ℕ) (p q1 q2 q3 q4 q5 q6 : Page) → below ≡ beneath height 1 → q1 ≡ put (ascii "</text>\n<text x=\"0\" y=\"") p → q2 ≡ put (decimal below) q1 → q3 ≡ put (ascii "\">") q2 → q4 ≡ put (endText end words) q3 → q5 ≡ put (keyText end) q4 → q6 ≡ put (ascii "</text>\n") q5 → q6 ≡ put (footText height end words) p
 unfolding footText
-foot-put height end words below p q1 q2 q3 q4 q5 e1 h1 h2 h3 h4 h5 = rw (← e1) (puts _ _ _ _ _ (puts _ _ _ _ _ (puts _ _ _ _ _ (puts _ _ _ _ _ h1 h2) h3) h4) h5)
+foot-put height end words below p q1 q2 q3 q4 q5 q6 e1 h1 h2 h3 h4 h5 h6 = rw (← e1) (puts _ _ _ _ _ (puts _ _ _ _ _ (puts _ _ _ _ _ (puts _ _ _ _ _ (puts _ _ _ _ _ h1 h2) h3) h4) h5) h6)
 
 pub swatch-put : (height : ℕ) (named : Bool) (m cells y : ℕ) (p q1 q2 q3 : Page) → y ≡ beneath height (m % 16 + 2) → q1 ≡ put (squareText (m / 16 * 9) y) p → q2 ≡ put (colourText m) q1 → q3 ≡ put (captionText (m / 16 * 9) y named m cells) q2 → q3 ≡ put (swatchText height named m cells) p
 unfolding swatchText

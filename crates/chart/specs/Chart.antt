@@ -79,7 +79,7 @@ someText named domains p = cond (eqb (tally (alike (alone p)) domains) 0) [] (en
 
 -- the cells that are told by number, where there are any
 unfoldable pub openText : ℕ → List ℕ
-openText cells = cond (eqb cells 0) [] (ascii "  n" ++ padded 6 cells ++ ascii "  undecided: n patterns remain\n")
+openText cells = cond (eqb cells 0) [] (ascii " 2+" ++ padded 6 cells ++ ascii "  undecided: the number says how many patterns remain\n")
 
 -- the cells without a pattern, where there are any
 unfoldable pub emptyText : ℕ → List ℕ

@@ -108,9 +108,13 @@ hatchText = ascii "<defs><pattern id=\"open\" width=\".3\" height=\".3\" pattern
 unfoldable pub seamsText : ℕ → List ℕ
 seamsText mode = line mode (ascii "No side is joined to another.\nEast meets west at the dashed sides.\nNorth meets south at the dashed sides.\nEast meets west and north meets south at the dashed sides.")
 
--- how the run ended, below the grid
+-- what hatched and black cells are, by how the run ended, on a line of its own
+unfoldable pub keyText : ℕ → List ℕ
+keyText end = line end (ascii "\n<tspan x=\"0\" dy=\".75\">Hatched cells are undecided and show how many patterns remain.</tspan>\n<tspan x=\"0\" dy=\".75\">Hatched cells are undecided and show how many patterns remain.</tspan>\n<tspan x=\"0\" dy=\".75\">Black cells have no pattern left.</tspan>")
+
+-- how the run ended, below the grid, and what hatched and black cells are
 unfoldable pub footText : ℕ → ℕ → ℕ → List ℕ
-footText height end words = ascii "</text>\n<text x=\"0\" y=\"" ++ decimal (beneath height 1) ++ ascii "\">" ++ endText end words ++ ascii "</text>\n"
+footText height end words = ascii "</text>\n<text x=\"0\" y=\"" ++ decimal (beneath height 1) ++ ascii "\">" ++ endText end words ++ keyText end ++ ascii "</text>\n"
 
 -- the start of a picture
 unfoldable pub headText : ℕ → ℕ → ℕ → ℕ → ℕ → List ℕ

@@ -2,7 +2,7 @@
 ghost use mathlib.Core.Path.{_≡_};
 ghost use Prim.Native.Nat.{_+_, _<_, _≤_, min};
 ghost use Rattle.text.specs.Pages.{page, put, texts};
-ghost use Rattle.chart.specs.Picture.{part, colourText, squareText, placeText, fillText, toldText, markText, tileText, tilesText, pictureRow, strokeText, uprightText, levelText, sizeText, hatchText, seamsText, footText, headText, besideText, captionText, swatchText, shownText, tailText};
+ghost use Rattle.chart.specs.Picture.{part, colourText, squareText, placeText, fillText, toldText, markText, tileText, tilesText, pictureRow, strokeText, uprightText, levelText, sizeText, hatchText, seamsText, keyText, footText, headText, besideText, captionText, swatchText, shownText, tailText};
 ghost use Rattle.chart.specs.Picture as meaning;
 ghost use Rattle.chart.specs.Chart.{rowCount, rowOf};
 ghost use lib.ListN.{length};
@@ -438,7 +438,19 @@ fn put_size(width: usize, height: usize, at: usize, out: &mut [u8]) -> usize
     put_text(b"\" font-family=\"sans-serif\" font-size=\".6\">\n", d, out)
 }
 
-// How the run ended, below the grid.
+// What hatched and black cells are, by how the run ended.
+fn put_key(end: usize, at: usize, out: &mut [u8]) -> usize
+    ensures { λ r. ⌜ page (now (out .exit)) r ≡ put (keyText end) (page (now (out .entry)) at) ⌝ }
+{
+    put_line(
+        b"\n<tspan x=\"0\" dy=\".75\">Hatched cells are undecided and show how many patterns remain.</tspan>\n<tspan x=\"0\" dy=\".75\">Hatched cells are undecided and show how many patterns remain.</tspan>\n<tspan x=\"0\" dy=\".75\">Black cells have no pattern left.</tspan>",
+        end,
+        at,
+        out,
+    )
+}
+
+// How the run ended, below the grid, and what hatched and black cells are.
 fn put_foot(height: usize, end: usize, words: usize, at: usize, out: &mut [u8]) -> usize
     ensures { λ r. ⌜ page (now (out .exit)) r ≡ put (footText height end words) (page (now (out .entry)) at) ⌝ }
 {
@@ -447,7 +459,8 @@ fn put_foot(height: usize, end: usize, words: usize, at: usize, out: &mut [u8]) 
     let b = put_decimal(below, a, out);
     let c = put_text(b"\">", b, out);
     let d = put_end(end, words, c, out);
-    put_text(b"</text>\n", d, out)
+    let e = put_key(end, d, out);
+    put_text(b"</text>\n", e, out)
 }
 
 // The start of the picture, up to its cells.

@@ -316,9 +316,13 @@ fn put_open(cells: usize, at: usize, out: &mut [u8]) -> usize
     if cells == 0 {
         return at;
     }
-    let a = put_text(b"  n", at, out);
+    let a = put_text(b" 2+", at, out);
     let b = put_padded(6, cells, a, out);
-    put_text(b"  undecided: n patterns remain\n", b, out)
+    put_text(
+        b"  undecided: the number says how many patterns remain\n",
+        b,
+        out,
+    )
 }
 
 // The cells without a pattern, where there are any.

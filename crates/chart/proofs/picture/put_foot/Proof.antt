@@ -26,6 +26,9 @@ put-text-requires-2 c κs = search needs
 put-end-requires : tie.Need-put-end-requires
 put-end-requires c κs = search needs
 
+put-key-requires : tie.Need-put-key-requires
+put-key-requires c κs = search needs
+
 slice-aggregate-put-text-3 : tie.Need-slice-aggregate-put-text-3
 slice-aggregate-put-text-3 c = search needs
 
@@ -36,8 +39,8 @@ same-length : tie.Need-same-length
 same-length c = search needs
 
 returns : tie.Need-returns
-returns c = foot-put _ _ _ _ _ _ _ _ _ _ (c .before .before .before .before .before .before .before .before .before .before .before .before .before .before .before .before .before .before .before .before .before .before .before .beneath .ensures)
-    (c .before .before .before .before .before .before .before .before .before .before .before .before .before .before .before .before .before .before .before .before .put-text .ensures) (c .before .before .before .before .before .before .before .before .before .before .before .before .before .before .before .before .put-decimal .ensures) (c .before .before .before .before .before .before .before .before .before .before .before .put-text2 .ensures) (c .before .before .before .before .before .before .before .put-end .ensures) (c .before .before .put-text3 .ensures)
+returns c = foot-put _ _ _ _ _ _ _ _ _ _ _ (c .before .before .before .before .before .before .before .before .before .before .before .before .before .before .before .before .before .before .before .before .before .before .before .before .before .before .before .beneath .ensures)
+    (c .before .before .before .before .before .before .before .before .before .before .before .before .before .before .before .before .before .before .before .before .before .before .before .before .put-text .ensures) (c .before .before .before .before .before .before .before .before .before .before .before .before .before .before .before .before .before .before .before .before .put-decimal .ensures) (c .before .before .before .before .before .before .before .before .before .before .before .before .before .before .before .put-text2 .ensures) (c .before .before .before .before .before .before .before .before .before .before .before .put-end .ensures) (c .before .before .before .before .before .before .before .put-key .ensures) (c .before .before .put-text3 .ensures)
 
 pub put-foot-spec : {M : Type 1} → statement M
 put-foot-spec =
@@ -50,6 +53,7 @@ put-foot-spec =
     slice-aggregate-put-text-2
     put-text-requires-2
     put-end-requires
+    put-key-requires
     slice-aggregate-put-text-3
     put-text-requires-3
     same-length
