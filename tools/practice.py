@@ -80,13 +80,17 @@ def sheet():
     return rows
 
 
+def sheet_bytes():
+    return bytes(b for _, bs in sheet() for b in bs)
+
+
 def main():
     rows = sheet()
-    data = [b for _, bs in rows for b in bs]
+    data = sheet_bytes()
     assert all(lists()) and COUNT * WIDTH * HEIGHT <= 4096 and sum(w for _, w in PATTERNS) <= 1024
     if len(sys.argv) > 1:
         with open(sys.argv[1], "wb") as f:
-            f.write(bytes(data))
+            f.write(data)
         return
     here = os.path.join(os.path.dirname(os.path.abspath(__file__)), "..", "crates", "practice")
     with open(os.path.join(here, "src", "bytes.rt"), "w") as f:

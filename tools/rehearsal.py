@@ -1,9 +1,14 @@
 #!/usr/bin/env python3
 """Writes what the program rehearsal is run on: the files of crates/rehearsal/data and the words of its commands, crates/rehearsal/args.
 
-Run from the repository's root. What it must write, crates/rehearsal/stdout, was recorded from the program and read."""
+Run from the repository's root. The sheet of the practice ocean is that of tools/practice.py.
+What it must write, crates/rehearsal/stdout, was recorded from the program and read."""
 from os import makedirs
 from struct import pack
+import sys
+
+sys.dont_write_bytecode = True
+from practice import sheet_bytes
 
 DATA = "crates/rehearsal/data"
 
@@ -46,6 +51,7 @@ FALLING = [[0, 1, 2, 3, 4]] * 19 + [[1, 0]]
 ONE_SIDED = [[1]] * 4 + [[0]] * 3 + [[1]]
 FILES = {
     "free.sheet": FREE,
+    "practice.sheet": sheet_bytes(),
     "held.sheet": free([1, 1, 1, 1], 5, 3, 3, [(7, 2, 1), (0, 0, 0), (14, 3, 0)]),
     "checker.sheet": sheet([1, 1], [[1]] * 4 + [[0]] * 4, 3, 1, 1, [(0, 0, 1)]),
     "wide.sheet": free([1] * 8, 64, 8, 2),
@@ -78,8 +84,10 @@ FILES = {
     "odd": bytes(5),
     "folder/file": b"",
 }
-COMMANDS = """
+LONG_NAME = "x" * 256
+COMMANDS = f"""
 --seed 3
+--seed 7 practice.sheet
 --seed 3 free.sheet seeded.result
 bytes seeded.result
 --seed 4 free.sheet --seed 3
@@ -111,8 +119,10 @@ bytes contradiction.result
 free.sheet
 free.sheet eight.noise
 free.sheet eight.noise eight.words more.result fifth
+--seed 3 free.sheet eight.noise eight.words more.result fifth
 --seed 3 free.sheet eight.noise eight.words
 --seed 3 none.sheet
+--seed 3 \x1b[7mnone\x7f\t✓.sheet
 --seed 3 '' refused.result
 free.sheet '' eight.words refused.result
 free.sheet eight.noise '' refused.result
@@ -153,6 +163,7 @@ free.sheet long.noise eight.words refused.result
 --seed 3 large-and-wrong.sheet refused.result
 --svg refused.svg --seed 3 free.sheet none/free.result
 --svg refused.svg --seed 3 free.sheet folder
+--svg refused.svg --seed 3 free.sheet {LONG_NAME}
 --svg refused.svg --seed 3 free.sheet /dev/full
 --svg none/free.svg --seed 3 free.sheet
 --svg /dev/full --seed 3 free.sheet
@@ -168,5 +179,5 @@ lines = []
 for command in COMMANDS.strip().split("\n"):
     lines += ["then"] if lines else []
     lines += ["" if word == "''" else word for word in command.split(" ")]
-with open("crates/rehearsal/args", "w") as file:
+with open("crates/rehearsal/args", "w", encoding="utf-8") as file:
     file.write("".join(line + "\n" for line in lines))

@@ -1,3 +1,4 @@
 pub mod ArgumentLaws
 pub mod FileLaws
+pub mod SentenceLaws
 pub mod Unique

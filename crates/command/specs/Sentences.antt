@@ -1,7 +1,9 @@
 -- The sentences that a person is told, each in one line that starts with `ocean: `. Follows docs/RULES.md, "Refusals" and "Programs".
 -- Assumes nothing.
+use mathlib.Core.Bool.{cond, _||_}
 use mathlib.Core.List.{List, [], _∷_, _++_}
 use Prim.Native.Nat.{ℕ}
+use lib.Dec.{ltb, eqb}
 use Rattle.text.specs.Pages.{ascii, line}
 use Rattle.text.specs.Numbers.{decimal}
 
@@ -15,7 +17,7 @@ refusalText number = ascii "ocean: refused: " ++ decimal number ++ (32 ∷ []) +
 
 -- what is wrong with what is asked, one to a line, from 0 for nothing
 unfoldable pub faults : List ℕ
-faults = ascii "\n--seed wants a number from 0 to 4294967295 after it\n--svg wants the name of a file after it\nthere is no such option, only these: ocean [--svg FILE] [--seed N] [SHEET [NOISE WORDS] [RESULT]]\nthere are more files than SHEET NOISE WORDS RESULT\na sheet wants its noise and its words, as in: ocean SHEET NOISE WORDS, or a seed, as in: ocean --seed 7 SHEET\nwith --seed there is no noise and no words, as in: ocean --seed 7 SHEET RESULT\nRESULT and the picture want names of their own, and one of them has the name of another file here\nthis program takes up to 4,096 cells times patterns, and the sheet has more\nthe name of a file is empty, or longer than 4,096 bytes"
+faults = ascii "\n--seed wants a number from 0 to 4294967295 after it\n--svg wants the name of a file after it\nthere is no such option, only these: ocean [--svg FILE] [--seed N] [SHEET [NOISE WORDS] [RESULT]]\nthere are more files than SHEET NOISE WORDS RESULT, or with --seed than SHEET RESULT\na sheet wants its noise and its words, as in: ocean SHEET NOISE WORDS, or a seed, as in: ocean --seed 7 SHEET\nwith --seed there is no noise and no words, as in: ocean --seed 7 SHEET RESULT\nRESULT and the picture want names of their own, and one of them has the name of another file here\nthis program takes up to 4,096 cells times patterns, and the sheet has more\nthe name of a file is empty, or longer than 4,096 bytes"
 
 -- what is wrong with what is asked, by the fault's number
 unfoldable pub faultText : ℕ → List ℕ
@@ -23,8 +25,17 @@ faultText fault = ascii "ocean: " ++ line fault faults ++ ascii ".\n"
 
 -- what is wrong with a file, one to a line, from 0 for nothing
 unfoldable pub fileFaults : List ℕ
-fileFaults = ascii "\nthere is no such file or folder\nthis is a folder, not a file\nthis may not be opened\nthis cannot be opened or read\nthis ends within a word, and noise and words are files of 32-bit words\nthis could not be written to its end"
+fileFaults = ascii "\nthere is no such file or folder\nthis is a folder, not a file\nthis may not be opened\nthis cannot be opened, read or written\nthis ends within a word, and noise and words are files of 32-bit words\nthis could not be written to its end"
+
+-- a byte of a name as it is shown: a question mark for what would not stay in the line, or would steer a terminal
+unfoldable pub shownByte : ℕ → ℕ
+shownByte b = cond (ltb b 32 || eqb b 127) 63 b
+
+-- a name as it is shown, byte by byte
+unfoldable pub shown : List ℕ → List ℕ
+shown [] = []
+shown (b ∷ name) = shownByte b ∷ shown name
 
 -- what is wrong with the file of this name, by the fault's number
 unfoldable pub fileText : List ℕ → ℕ → List ℕ
-fileText name fault = ascii "ocean: " ++ name ++ ascii ": " ++ line fault fileFaults ++ ascii ".\n"
+fileText name fault = ascii "ocean: " ++ shown name ++ ascii ": " ++ line fault fileFaults ++ ascii ".\n"

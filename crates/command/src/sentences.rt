@@ -1,7 +1,7 @@
 // The sentences that a person is told. Each call puts the text of one definition.
 ghost use mathlib.Core.Path.{_≡_};
 ghost use Rattle.text.specs.Pages.{page, put};
-ghost use Rattle.command.specs.Sentences.{refusalText, faultText, fileText};
+ghost use Rattle.command.specs.Sentences.{refusalText, faultText, shownByte, shown, fileText};
 use text::put_byte;
 use text::put_decimal;
 use text::put_line;
@@ -21,7 +21,7 @@ pub const FOLDER: usize = 2;
 
 pub const FORBIDDEN: usize = 3;
 
-pub const UNREADABLE: usize = 4;
+pub const UNUSABLE: usize = 4;
 
 pub const CUT: usize = 5;
 
@@ -49,7 +49,7 @@ pub fn put_fault(fault: usize, at: usize, out: &mut [u8]) -> usize
 {
     let a = put_text(b"ocean: ", at, out);
     let b = put_line(
-        b"\n--seed wants a number from 0 to 4294967295 after it\n--svg wants the name of a file after it\nthere is no such option, only these: ocean [--svg FILE] [--seed N] [SHEET [NOISE WORDS] [RESULT]]\nthere are more files than SHEET NOISE WORDS RESULT\na sheet wants its noise and its words, as in: ocean SHEET NOISE WORDS, or a seed, as in: ocean --seed 7 SHEET\nwith --seed there is no noise and no words, as in: ocean --seed 7 SHEET RESULT\nRESULT and the picture want names of their own, and one of them has the name of another file here\nthis program takes up to 4,096 cells times patterns, and the sheet has more\nthe name of a file is empty, or longer than 4,096 bytes",
+        b"\n--seed wants a number from 0 to 4294967295 after it\n--svg wants the name of a file after it\nthere is no such option, only these: ocean [--svg FILE] [--seed N] [SHEET [NOISE WORDS] [RESULT]]\nthere are more files than SHEET NOISE WORDS RESULT, or with --seed than SHEET RESULT\na sheet wants its noise and its words, as in: ocean SHEET NOISE WORDS, or a seed, as in: ocean --seed 7 SHEET\nwith --seed there is no noise and no words, as in: ocean --seed 7 SHEET RESULT\nRESULT and the picture want names of their own, and one of them has the name of another file here\nthis program takes up to 4,096 cells times patterns, and the sheet has more\nthe name of a file is empty, or longer than 4,096 bytes",
         fault,
         a,
         out,
@@ -57,15 +57,41 @@ pub fn put_fault(fault: usize, at: usize, out: &mut [u8]) -> usize
     put_text(b".\n", b, out)
 }
 
+// A byte of a name, as it is shown.
+fn shown_byte(byte: u8) -> u8
+    ensures { λ r. ⌜ r ≡ shownByte byte ⌝ }
+{
+    if byte < 32 {
+        return b'?';
+    }
+    if byte == 127 {
+        return b'?';
+    }
+    byte
+}
+
+// A name, as it is shown.
+fn put_name(name: &[u8], at: usize, out: &mut [u8]) -> usize
+    ensures { λ r. ⌜ page (now (out .exit)) r ≡ put (shown (now (name .entry))) (page (now (out .entry)) at) ⌝ }
+{
+    let mut next = at;
+    let mut i = 0;
+    while i < name.len() {
+        next = put_byte(shown_byte(name[i]), next, out);
+        i += 1;
+    }
+    next
+}
+
 // What is wrong with a file, by its name and the fault's number.
 pub fn put_file_fault(name: &[u8], fault: usize, at: usize, out: &mut [u8]) -> usize
     ensures { λ r. ⌜ page (now (out .exit)) r ≡ put (fileText (now (name .entry)) fault) (page (now (out .entry)) at) ⌝ }
 {
     let a = put_text(b"ocean: ", at, out);
-    let b = put_text(name, a, out);
+    let b = put_name(name, a, out);
     let c = put_text(b": ", b, out);
     let d = put_line(
-        b"\nthere is no such file or folder\nthis is a folder, not a file\nthis may not be opened\nthis cannot be opened or read\nthis ends within a word, and noise and words are files of 32-bit words\nthis could not be written to its end",
+        b"\nthere is no such file or folder\nthis is a folder, not a file\nthis may not be opened\nthis cannot be opened, read or written\nthis ends within a word, and noise and words are files of 32-bit words\nthis could not be written to its end",
         fault,
         c,
         out,

@@ -6,7 +6,7 @@ use command::files::Names;
 use command::sentences::FOLDER;
 use command::sentences::FORBIDDEN;
 use command::sentences::MISSING;
-use command::sentences::UNREADABLE;
+use command::sentences::UNUSABLE;
 use command::sentences::UNWRITTEN;
 
 // How many bytes were read, and whether there are more than fit; or the file could not be read, and the person was told.
@@ -65,7 +65,7 @@ fn reason(error: i32) -> usize {
     if error == libc::EACCES {
         return FORBIDDEN;
     }
-    UNREADABLE
+    UNUSABLE
 }
 
 // Tells the person why a file could not be opened or read, just after the call that failed.

@@ -12,14 +12,14 @@ slice-aggregate-put-text c = search needs
 put-text-requires : tie.Need-put-text-requires
 put-text-requires c κs = search needs
 
-put-text-requires-2 : tie.Need-put-text-requires-2
-put-text-requires-2 c κs = search needs
+put-name-requires : tie.Need-put-name-requires
+put-name-requires c κs = search needs
 
 slice-aggregate-put-text-2 : tie.Need-slice-aggregate-put-text-2
 slice-aggregate-put-text-2 c = search needs
 
-put-text-requires-3 : tie.Need-put-text-requires-3
-put-text-requires-3 c κs = search needs
+put-text-requires-2 : tie.Need-put-text-requires-2
+put-text-requires-2 c κs = search needs
 
 slice-aggregate-put-line : tie.Need-slice-aggregate-put-line
 slice-aggregate-put-line c = search needs
@@ -30,15 +30,15 @@ put-line-requires c κs = search needs
 slice-aggregate-put-text-3 : tie.Need-slice-aggregate-put-text-3
 slice-aggregate-put-text-3 c = search needs
 
-put-text-requires-4 : tie.Need-put-text-requires-4
-put-text-requires-4 c κs = search needs
+put-text-requires-3 : tie.Need-put-text-requires-3
+put-text-requires-3 c κs = search needs
 
 same-length : tie.Need-same-length
 same-length c = search needs
 
 returns : tie.Need-returns
 unfolding fileText fileFaults
-returns c = puts _ _ _ _ _ (puts _ _ _ _ _ (puts _ _ _ _ _ (puts _ _ _ _ _ (c .before .before .before .before .before .before .before .before .before .before .before .before .before .before .before .before .before .before .before .before .before .put-text .ensures) (c .before .before .before .before .before .before .before .before .before .before .before .before .before .before .before .before .before .put-text2 .ensures)) (c .before .before .before .before .before .before .before .before .before .before .before .before .put-text3 .ensures)) (c .before .before .before .before .before .before .before .put-line .ensures)) (c .before .before .put-text4 .ensures)
+returns c = puts _ _ _ _ _ (puts _ _ _ _ _ (puts _ _ _ _ _ (puts _ _ _ _ _ (c .before .before .before .before .before .before .before .before .before .before .before .before .before .before .before .before .before .before .before .before .before .put-text .ensures) (c .before .before .before .before .before .before .before .before .before .before .before .before .before .before .before .before .before .put-name .ensures)) (c .before .before .before .before .before .before .before .before .before .before .before .before .put-text2 .ensures)) (c .before .before .before .before .before .before .before .put-line .ensures)) (c .before .before .put-text3 .ensures)
 
 pub put-file-fault-spec : {M : Type 1} → statement M
 put-file-fault-spec =
@@ -46,12 +46,12 @@ put-file-fault-spec =
     (tie.spec
     slice-aggregate-put-text
     put-text-requires
-    put-text-requires-2
+    put-name-requires
     slice-aggregate-put-text-2
-    put-text-requires-3
+    put-text-requires-2
     slice-aggregate-put-line
     put-line-requires
     slice-aggregate-put-text-3
-    put-text-requires-4
+    put-text-requires-3
     same-length
     returns)

@@ -1,0 +1,140 @@
+-- Laws of the sentences: how a name is shown, and that each is one line.
+-- Assumes nothing.
+use mathlib.Core.Bool.{Bool, true, false, cond, _||_}
+use mathlib.Core.List.{List, [], _∷_, _++_, append-assoc}
+use mathlib.Core.Path.{_≡_, refl, sym, ap, _∙_}
+use Prim.Native.Nat.{ℕ, zero, suc, _+_, _/_, _%_, _≤_, _<_}
+use native.Mathlib.Numerals.{add-one}
+use native.Mathlib.Omega.{arith}
+use lib.Dec.{ltb, eqb}
+use lib.ListN.{length, getD, drop, drop-of-length-le}
+use lib.Seq.{drop-cons}
+use borrow.Author.Tests.{lt-ltb, le-ltb, eq-eqb, ne-eqb, ltb-false, eqb-false}
+use Rattle.text.specs.Numbers.{digits, decimal}
+use Rattle.text.specs.Pages.{Page, put, ascii, line}
+use Rattle.text.proofs.PageLaws.{put-none, put-cons}
+use Rattle.command.specs.Sentences.{sentences, refusalText, faults, faultText, shownByte, shown, fileFaults, fileText}
+
+-- ---- a byte
+
+pub shown-low : (b : ℕ) → b < 32 → 63 ≡ shownByte b
+unfolding shownByte
+shown-low b h = simp (lt-ltb b 32 h)
+
+module _ (b : ℕ) (h : 32 ≤ b) where
+  pub shown-delete : b ≡ 127 → 63 ≡ shownByte b
+  unfolding shownByte
+  shown-delete e = simp (le-ltb b 32 h, eq-eqb b 127 e)
+
+  pub shown-plain : (b ≡ 127 → ⊥) → b ≡ shownByte b
+  unfolding shownByte
+  shown-plain e = simp (le-ltb b 32 h, ne-eqb b 127 e)
+
+-- ---- the loop
+
+module _ (name : List ℕ) {R : Page} where
+  -- a turn at i, which put the byte there as it is shown
+  pub shown-turn : (i b : ℕ) (p q : Page) → i < length name → b ≡ shownByte (getD name i 0) → q ≡ put (b ∷ []) p → put (shown (drop i name)) p ≡ R → put (shown (drop (i + 1) name)) q ≡ R
+  unfolding shown
+  shown-turn i b p q h is e inv =
+      let k : put (shownByte (getD name i 0) ∷ shown (drop (suc i) name)) p ≡ R = rw (drop-cons name i 0 h) at inv in
+      rw (add-one, e, is) (sym (put-cons (shownByte (getD name i 0)) (shown (drop (suc i) name)) p) ∙ k)
+
+  pub shown-end : (i : ℕ) (p : Page) → length name ≤ i → put (shown (drop i name)) p ≡ R → p ≡ R
+  unfolding shown
+  shown-end i p h inv = sym (put-none p) ∙ (rw (drop-of-length-le name h) at inv)
+
+-- ---- one line
+
+-- a text that does not end a line: what comes after it is in the same one
+abbrev Plain : List ℕ → Type 0
+Plain s = (t : List ℕ) → line 0 (s ++ t) ≡ s ++ line 0 t
+
+-- a text that is one line: its first line and the end of that are all of it
+abbrev OneLine : List ℕ → Type 0
+OneLine t = line 0 t ++ (10 ∷ []) ≡ t
+
+plain-none : Plain []
+plain-none t = refl
+
+plain-cons : (b : ℕ) (s : List ℕ) → (b ≡ 10 → ⊥) → Plain s → Plain (b ∷ s)
+unfolding line
+plain-cons b s n e t = simp (ne-eqb b 10 n) (ap (λ (l : List ℕ). b ∷ l) (e t))
+
+plain-append : (s t : List ℕ) → Plain s → Plain t → Plain (s ++ t)
+plain-append s t d e u =
+    ap (line 0) (append-assoc s t u) ∙ d (t ++ u) ∙ ap (λ (l : List ℕ). s ++ l) (e u) ∙ sym (append-assoc s t (line 0 u))
+
+one-line : (s t : List ℕ) → Plain s → OneLine t → OneLine (s ++ t)
+one-line s t d e =
+    ap (λ (l : List ℕ). l ++ (10 ∷ [])) (d t) ∙ append-assoc s (line 0 t) (10 ∷ []) ∙ ap (λ (l : List ℕ). s ++ l) e
+
+-- a byte of a line, by whether it ends it
+plain-byte : (end : Bool) (b : ℕ) (s : List ℕ) → eqb b 10 ≡ end → Plain s → Plain (cond end [] (b ∷ s))
+plain-byte true b s e d = plain-none
+plain-byte false b s e d = plain-cons b s (eqb-false b 10 e) d
+
+plain-pass : (end : Bool) (s t : List ℕ) → Plain s → Plain t → Plain (cond end s t)
+plain-pass true s t d e = d
+plain-pass false s t d e = e
+
+plain-line : (k : ℕ) (t : List ℕ) → Plain (line k t)
+unfolding line
+plain-line zero [] = plain-none
+plain-line (suc k) [] = plain-none
+plain-line zero (b ∷ t) = plain-byte (eqb b 10) b (line zero t) refl (plain-line zero t)
+plain-line (suc k) (b ∷ t) = plain-pass (eqb b 10) (line k t) (line (suc k) t) (plain-line k t) (plain-line (suc k) t)
+
+plain-digits : (places n : ℕ) → Plain (digits places n)
+unfolding digits
+plain-digits zero n = plain-none
+plain-digits (suc places) n =
+    plain-append
+    (cond (ltb n 10) [] (digits places (n / 10)))
+    ((48 + n % 10) ∷ [])
+    (plain-pass (ltb n 10) [] (digits places (n / 10)) plain-none (plain-digits places (n / 10)))
+    (plain-cons (48 + n % 10) [] (λ e. omega arith) plain-none)
+
+-- no byte that is shown ends a line
+shown-stays : (b : ℕ) → shownByte b ≡ 10 → ⊥
+unfolding shownByte
+shown-stays b = stays (ltb b 32) (eqb b 127) refl
+  where
+    stays : (low delete : Bool) → ltb b 32 ≡ low → cond (low || delete) 63 b ≡ 10 → ⊥
+    stays true delete e h = omega arith
+    stays false true e h = omega arith
+    stays false false e h = omega (arith, ltb-false b 32 e)
+
+plain-shown : (name : List ℕ) → Plain (shown name)
+unfolding shown
+plain-shown [] = plain-none
+plain-shown (b ∷ name) = plain-cons (shownByte b) (shown name) (shown-stays b) (plain-shown name)
+
+-- each sentence is one line, whatever its number and whatever bytes the name of a file has
+
+pub refusal-one-line : (number : ℕ) → OneLine (refusalText number)
+unfolding refusalText decimal line
+refusal-one-line number =
+    let a = ascii "ocean: refused: " ++ decimal number in
+    let b = a ++ (32 ∷ []) in
+    let start = plain-append (ascii "ocean: refused: ") (decimal number) (λ t. refl) (plain-digits 20 number) in
+    let space = plain-append a (32 ∷ []) start (λ t. refl) in
+    one-line (b ++ line number sentences) (10 ∷ []) (plain-append b (line number sentences) space (plain-line number sentences)) refl
+
+pub fault-one-line : (fault : ℕ) → OneLine (faultText fault)
+unfolding faultText line
+fault-one-line fault =
+    one-line
+    (ascii "ocean: " ++ line fault faults)
+    (ascii ".\n")
+    (plain-append (ascii "ocean: ") (line fault faults) (λ t. refl) (plain-line fault faults))
+    refl
+
+pub file-one-line : (name : List ℕ) (fault : ℕ) → OneLine (fileText name fault)
+unfolding fileText line
+file-one-line name fault =
+    let a = ascii "ocean: " ++ shown name in
+    let b = a ++ ascii ": " in
+    let start = plain-append (ascii "ocean: ") (shown name) (λ t. refl) (plain-shown name) in
+    let colon = plain-append a (ascii ": ") start (λ t. refl) in
+    one-line (b ++ line fault fileFaults) (ascii ".\n") (plain-append b (line fault fileFaults) colon (plain-line fault fileFaults)) refl
