@@ -26,7 +26,7 @@ use Rattle.run.specs.Course.{fullLess, wanted}
 use Rattle.run.specs.Called as calls
 use Rattle.run.specs.Called.{Memory, memory, roomOf, Opened, baseTests, testsOf, forbidTests, End, answerTold, Outcome, outcome, cleared, finished}
 use Rattle.run.specs.Steps.{idle, endedAs}
-use Rattle.run.specs.Stages.{contradicted, standing, stateIn, stageOf, Standing, beginAt, firstBad, beginning, layAt, concluding}
+use Rattle.run.specs.Stages.{contradicted, standing, stateIn, contradictionCode, stageOf, Standing, beginAt, firstBad, beginning, layAt, concluding}
 use Rattle.consistency.proofs.Settled.{Settled}
 use Rattle.propagation.proofs.LentLaws.{safe-beside}
 use Rattle.run.proofs.StateLaws.{asked-inside, reducedBy-settled, forbade-settled}
@@ -149,7 +149,7 @@ module _ {i : Given} {m : Memory} (S : Standing i m) where
     after-empty h = sym (ap (λ (s : State Beside). s .empty) e) ∙ h
 
     -- a cell was emptied
-    pub lay-contradicted : pile .empty ≡ true → stageOf (i .table .count) 12 m′ ≡ layAt i f (stateIn (i .table .count) m)
+    pub lay-contradicted : pile .empty ≡ true → stageOf (i .table .count) contradictionCode m′ ≡ layAt i f (stateIn (i .table .count) m)
     unfolding stageOf layAt
     lay-contradicted h = sym (ap (λ (b : Bool). cond b contradicted (standing after)) (after-empty h))
 
@@ -204,18 +204,18 @@ module _ (i : Given) (words : List ℕ) (m : Memory) {code : ℕ} where
   conclude-standing z e = e ∙ ap (λ (n : ℕ). concluding i words (stageOf (i .table .count) n m) m) (sym z)
 
   -- a forbid emptied a cell: all is zero
-  pub conclude-contradicted : code ≡ 12 → {m′ : Memory} → m′ ≡ cleared (replicate (length (m .domains)) 0) (roomOf m)
+  pub conclude-contradicted : code ≡ contradictionCode → {m′ : Memory} → m′ ≡ cleared (replicate (length (m .domains)) 0) (roomOf m)
       → outcome (answerTold (Contradiction 0)) m′ ≡ concluding i words (stageOf (i .table .count) code m) m
   unfolding stageOf concluding finished answerTold
   conclude-contradicted z e =
       ap (outcome (answer (record { end = 3; used = 0 }))) e ∙ ap (λ (n : ℕ). concluding i words (stageOf (i .table .count) n m) m) (sym z)
 
   -- refused, all is as it was
-  pub conclude-refused : (code ≡ 0 → ⊥) → (code ≡ 12 → ⊥) → (r : Refusal) → number r ≡ code
+  pub conclude-refused : (code ≡ 0 → ⊥) → (code ≡ contradictionCode → ⊥) → (r : Refusal) → number r ≡ code
       → outcome (answerTold (Refused r)) m ≡ concluding i words (stageOf (i .table .count) code m) m
   unfolding answerTold stageOf concluding
   conclude-refused z y r e = ap (λ (n : ℕ). outcome (refused n) m) e ∙ go code z y
     where
-      go : (n : ℕ) → (n ≡ 0 → ⊥) → (n ≡ 12 → ⊥) → outcome (refused n) m ≡ concluding i words (stageOf (i .table .count) n m) m
+      go : (n : ℕ) → (n ≡ 0 → ⊥) → (n ≡ contradictionCode → ⊥) → outcome (refused n) m ≡ concluding i words (stageOf (i .table .count) n m) m
       go zero z y = absurd (z refl)
-      go (suc n) z y = rw (ne-eqb (suc n) 12 y)
+      go (suc n) z y = rw (ne-eqb (suc n) contradictionCode y)
