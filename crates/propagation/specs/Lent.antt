@@ -46,7 +46,7 @@ pub record Roomy (n : ℕ) (noise : List ℕ) (floats : List Float) (marks : Lis
   pub marked : 2 * n + blocks n ≤ length marks
 
 -- what the weights, the noise and what is kept beside must be; every removal touches its block, with or without weight
-pub record Room (P n : ℕ) (weights noise : List ℕ) (floats : List Float) (marks : List ℕ) : Type 0 where
+pub record Alongside (P n : ℕ) (weights noise : List ℕ) (floats : List Float) (marks : List ℕ) : Type 0 where
   pub weighed : Weighed P weights
   pub marked : 2 * n + blocks n ≤ length marks
   pub roomy : (p : ℕ) → weighted weights p ≡ true → Roomy n noise floats marks

@@ -2,7 +2,7 @@
 ghost use mathlib.Core.Path.{_≡_};
 ghost use Prim.Native.Nat.{_+_, _<_};
 ghost use lib.ListN.{length};
-ghost use Rattle.consistency.specs.Worklist.{cleared};
+ghost use Rattle.consistency.specs.Worklist.{fourCleared};
 ghost use Rattle.propagation.specs.Supports.{taken, takenAt};
 
 // Takes one support. True where it is the last: then the pattern goes, and clearing its counts is left to its removal.
@@ -19,7 +19,7 @@ pub(crate) fn try_decrement(counts: &mut [u8], at: usize) -> bool
 // A pattern that is gone has no supports from any direction.
 pub(crate) fn clear_all_directions(counts: &mut [u8], at: usize)
     requires { ⌜ at + 3 < length (now counts) ⌝ }
-    ensures { λ _. ⌜ now (counts .exit) ≡ cleared (now (counts .entry)) at ⌝ }
+    ensures { λ _. ⌜ now (counts .exit) ≡ fourCleared (now (counts .entry)) at ⌝ }
 {
     counts[at] = 0;
     counts[at + 1] = 0;

@@ -17,14 +17,13 @@ use Rattle.logarithms.specs.Blocks.{blocks}
 use Rattle.consistency.specs.Worklist.{State, state}
 use Rattle.propagation.specs.declared.inner.Pile.{Pile}
 use Rattle.propagation.specs.Beside.{Beside, besideIn}
-use Rattle.propagation.specs.Lent.{pendingOf, stateOf, Lent, Roomy, Room, Ground}
+use Rattle.propagation.specs.Lent.{pendingOf, stateOf, Lent, Roomy, Alongside, Ground}
 use Rattle.run.specs.declared.Forbid.{Forbid}
 use Rattle.run.specs.declared.Answer.the-variants.{Contradiction, Refused}
 use Rattle.run.specs.declared.collapse.Stop.{Stop}
 use Rattle.run.specs.Run.{Given, begun, asked, laid, Ended, collapse}
 use Rattle.run.specs.Course.{fullLess, wanted}
-use Rattle.run.specs.Called as calls
-use Rattle.run.specs.Called.{Memory, memory, roomOf, Opened, baseTests, testsOf, forbidTests, End, answerTold, Outcome, outcome, cleared, finished}
+use Rattle.run.specs.Called.{Memory, memory, Room, room, roomOf, Opened, baseTests, testsOf, forbidTests, End, answerTold, Outcome, outcome, cleared, finished}
 use Rattle.run.specs.Steps.{idle, endedAs}
 use Rattle.run.specs.Stages.{contradicted, standing, stateIn, contradictionCode, stageOf, Standing, beginAt, firstBad, beginning, layAt, concluding}
 use Rattle.consistency.proofs.Settled.{Settled}
@@ -134,8 +133,8 @@ module _ {i : Given} {m : Memory} (S : Standing i m) where
         laid = laid-at (i .table .count) (m .domains) (m .counts) (m .pending) (m .floats) (m .marks) M (S .laid) e;
       }
 
-  pub standing-room : Room (i .table .count) (length (m .domains)) (i .weights) (i .noise) (m .floats) (m .marks)
-  standing-room = record { weighed = S .laid .lawful .weighed; marked = standing-roomy .marked; roomy = λ _ _. standing-roomy }
+  pub standing-alongside : Alongside (i .table .count) (length (m .domains)) (i .weights) (i .noise) (m .floats) (m .marks)
+  standing-alongside = record { weighed = S .laid .lawful .weighed; marked = standing-roomy .marked; roomy = λ _ _. standing-roomy }
 
   -- ---- a forbid is laid
 
@@ -180,7 +179,7 @@ module _ {i : Given} {m : Memory} (S : Standing i m) where
         (end-most i (S .laid .forbids) (S .laid .lawful) words (run-final i (S .laid .forbids) (S .laid .lawful) words))
 
     -- the answer tells their end, and the work memory is cleared
-    pub turns-concluded : {told : Asked End} {m′ : Memory} {r : calls.Room} → told ≡ answer (record { end = stop .end; used = stop .used })
+    pub turns-concluded : {told : Asked End} {m′ : Memory} {r : Room} → told ≡ answer (record { end = stop .end; used = stop .used })
         → m′ ≡ cleared (cond (eqb (stop .end) 3) (replicate (length D) 0) D) r → r ≡ roomOf m → outcome told m′ ≡ concluding i words (standing (stateIn (i .table .count) m)) m
     unfolding concluding finished endedAs
     turns-concluded {m′ = m′} t c r =
@@ -193,8 +192,8 @@ module _ {i : Given} {m : Memory} (S : Standing i m) where
 -- slices as long as before
 pub room-same : {R : Type 0} (m : Memory) {domains counts pending floats marks : ℕ}
     → (domains ≡ length (m .domains)) × ((counts ≡ length (m .counts)) × ((pending ≡ length (m .pending)) × ((floats ≡ length (m .floats)) × ((marks ≡ length (m .marks)) × R))))
-    → calls.room domains counts pending floats marks ≡ roomOf m
-room-same m (a, (b, (c, (d, (e, _))))) = λ j. calls.room (a j) (b j) (c j) (d j) (e j)
+    → room domains counts pending floats marks ≡ roomOf m
+room-same m (a, (b, (c, (d, (e, _))))) = λ j. room (a j) (b j) (c j) (d j) (e j)
 
 module _ (i : Given) (words : List ℕ) (m : Memory) {code : ℕ} where
   -- the run goes on: its turns

@@ -13,7 +13,7 @@ use Rattle.grid.specs.Grid.{cells}
 use Rattle.consistency.specs.Domains.{filled}
 use Rattle.consistency.specs.Worklist.{Removal, State}
 use Rattle.consistency.specs.Start.{others}
-use Rattle.consistency.specs.Parts.{lessened}
+use Rattle.consistency.specs.Parts.{removedAll}
 use Rattle.propagation.specs.Beside.{Beside}
 use Rattle.run.specs.declared.Forbid.{Forbid}
 use Rattle.choice.specs.Observer.{Sight}
@@ -33,7 +33,7 @@ pub record Lawful (i : Given) (fs : List Forbid) : Type 0 where
 
 -- full domains less what was asked to go
 abbrev pub fullLess : Given → List Removal → List ℕ
-fullLess i us = lessened us (filled (i .table .count) (cells (i .grid)))
+fullLess i us = removedAll us (filled (i .table .count) (cells (i .grid)))
 
 -- all that forbids ask to go
 unfoldable pub wanted : ℕ → List Forbid → List Removal
