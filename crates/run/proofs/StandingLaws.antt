@@ -45,9 +45,7 @@ base-granted lent i m e = called-granted lent i [] m (ap firstOf (append-nil (ba
 -- room for the start
 pub granted-opened : {lent : ℕ} {i : Given} {m : Memory} → Granted lent i [] m
     → Opened (i .table .count) (cells (i .grid)) (m .domains) (m .counts) (m .floats) (m .marks)
-granted-opened G =
-    let M = G .memory in
-    record { some = omega (arith, mul-le-mul (G .sized .tall) (G .sized .wide)); words = M .domains; supports = M .counts; values = M .floats; notes = M .marks }
+granted-opened {m = m} G = record { some = omega (arith, mul-le-mul (G .sized .tall) (G .sized .wide)); pending = m .pending; measured = G .memory }
 
 module _ (bad lent : ℕ) (i : Given) (m : Memory) {n : ℕ} (e : n ≡ firstOf (baseTests i lent (roomOf m))) where
   -- a refusal leaves all as it was
