@@ -99,6 +99,11 @@ pub placed-append : (P n : ℕ) (fs gs : List Forbid) → Placed P n fs → Plac
 placed-append P n [] gs h k = k
 placed-append P n (f ∷ fs) gs h k = (h .0, h .1, placed-append P n fs gs (h .2) k)
 
+-- and the other way round
+pub placed-parts : (P n : ℕ) (fs gs : List Forbid) → Placed P n (fs ++ gs) → Placed P n fs × Placed P n gs
+placed-parts P n [] gs h = (tt, h)
+placed-parts P n (f ∷ fs) gs h = let (a, b) = placed-parts P n fs gs (h .2) in ((h .0, h .1, a), b)
+
 module _ (i : Given) where
   -- after a contradiction no forbid is laid
   laidAll-empty : (fs : List Forbid) (s : State Beside) → s .empty ≡ true → laidAll i fs s ≡ s
