@@ -19,7 +19,7 @@ use Rattle.consistency.specs.Worklist.{Removal, removal, State, state, place, f
 use Rattle.consistency.specs.Safe.{total, Inside, Safe}
 use Rattle.propagation.specs.declared.inner.Pile.{Pile}
 use Rattle.propagation.specs.Beside.{Beside, beside, lessenedBy, lessened}
-use Rattle.propagation.specs.Lent.{pendingOf, stateOf, topOf, lowered, Lent, Alongside}
+use Rattle.propagation.specs.Lent.{pendingOf, stateOf, topOf, belowTop, Lent, Alongside}
 use Rattle.consistency.proofs.Keep.{removed-less, total-less}
 
 -- ---- the pile
@@ -80,8 +80,8 @@ module _ {P n : ℕ} {D C Q : List ℕ} {pile : Pile} (L : Lent P n D C Q pile) 
     pub top-pattern : topOf P Q pile .pattern < P
     top-pattern = top-inside .1
 
-    pub lowered-safe : {X : Type 0} (x : X) (M : ℕ) → pile .top - 1 + total P n D ≤ M → Safe P n M (stateOf P D C Q (lowered pile) x)
-    lowered-safe x M k =
+    pub belowTop-safe : {X : Type 0} (x : X) (M : ℕ) → pile .top - 1 + total P n D ≤ M → Safe P n M (stateOf P D C Q (belowTop pile) x)
+    belowTop-safe x M k =
         record {
           sized = L .safe .sized;
           fit = L .safe .fit;
@@ -91,8 +91,8 @@ module _ {P n : ℕ} {D C Q : List ℕ} {pile : Pile} (L : Lent P n D C Q pile) 
           told = L .safe .told;
         }
 
-    pub lent-lowered : Lent P n D C Q (lowered pile)
-    lent-lowered = lent-after (lowered-safe (tt {0}) (n * P) (omega (arith, L .safe .room, pending-length P Q (pile .top)))) refl
+    pub lent-belowTop : Lent P n D C Q (belowTop pile)
+    lent-belowTop = lent-after (belowTop-safe (tt {0}) (n * P) (omega (arith, L .safe .room, pending-length P Q (pile .top)))) refl
 
   -- ---- where a cell's pattern stands
 

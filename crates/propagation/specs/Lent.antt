@@ -28,8 +28,8 @@ stateOf P domains counts pending pile x =
 abbrev pub topOf : ℕ → List ℕ → Pile → Removal
 topOf P pending pile = removal (getD pending (pile .top - 1) 0 / P) (getD pending (pile .top - 1) 0 % P)
 
-abbrev pub lowered : Pile → Pile
-lowered pile = record { top = pile .top - 1; empty = pile .empty }
+abbrev pub belowTop : Pile → Pile
+belowTop pile = record { top = pile .top - 1; empty = pile .empty }
 
 -- the lent slices of a propagation of P patterns at n cells: a safe state, and a pile for every removal there can be
 pub record Lent (P n : ℕ) (domains counts pending : List ℕ) (pile : Pile) : Type 0 where

@@ -13,7 +13,7 @@ ghost use Rattle.consistency.specs.Worklist.{removal};
 ghost use Rattle.consistency.specs.Worklist as worklist;
 ghost use Rattle.propagation.specs.Beside.{beside};
 ghost use Rattle.propagation.specs.Watching.{watching};
-ghost use Rattle.propagation.specs.Lent.{stateOf, topOf, lowered, Lent, Alongside, Ground};
+ghost use Rattle.propagation.specs.Lent.{stateOf, topOf, belowTop, Lent, Alongside, Ground};
 ghost use Rattle.propagation.specs.Supports.{visits, untilLoss};
 use crate::inner::Pile;
 use grid::Near;
@@ -313,7 +313,7 @@ pub(crate) fn pop(
     requires { ⌜ Alongside count cells (now weights) (now noise) (now floats) (now marks) × (weighted ≡ mask (now weights)) × Lookups (now weights) (now logs) (now sums) ⌝ }
     ensures { λ r. ⌜ stateOf count (now (domains .exit)) (now (counts .exit)) (now (pending .exit)) r (beside (now (floats .exit)) (now (marks .exit)))
         ≡ worklist.spread (table count (now (offsets .entry)) (now (ids .entry))) (grid width height mode) (watching (now (weights .entry)) (now (noise .entry)) cells) (topOf count (now (pending .entry)) pile)
-        (stateOf count (now (domains .entry)) (now (counts .entry)) (now (pending .entry)) (lowered pile) (beside (now (floats .entry)) (now (marks .entry)))) ⌝ }
+        (stateOf count (now (domains .entry)) (now (counts .entry)) (now (pending .entry)) (belowTop pile) (beside (now (floats .entry)) (now (marks .entry)))) ⌝ }
 {
     let top = pile.top - 1;
     let u = slot(pending[top]);
