@@ -13,7 +13,7 @@ use Rattle.layout.specs.Reading.{framed, countIn, weightsFit, listsFit, gridFit
 use Rattle.loops.specs.Loops.{each}
 use Rattle.scan.specs.declared.inner.Scan.{Scan}
 use Rattle.scan.specs.declared.inner.Scan.the-variants.{Bad, Head, Count, High, Pass, Lists, Ids, Forbids}
-use Rattle.scan.specs.Scanning.{holding, step, start, past, formed, bad, Scanned}
+use Rattle.scan.specs.Scanning.{holding, step, start, past, formed, bad, Reached, Scanned}
 use Rattle.records.proofs.RecordLaws.{Bytes}
 use Rattle.scan.proofs.AfterLaws.{after, after-bad, after-record}
 use Rattle.scan.proofs.PayloadLaws.{weights-held, lists-held, grid-held}
@@ -82,6 +82,21 @@ bytes-append : (a b : List ℕ) → Bytes a → Bytes b → Bytes (a ++ b)
 bytes-append [] b h l k = l k
 bytes-append (x ∷ a) b h l zero = h 0
 bytes-append (x ∷ a) b h l (suc k) = bytes-append a b (λ i. h (suc i)) l k
+
+-- no bytes lead to where one is; and where some lead on, bytes more do
+pub reached-none : (s : Scan) → Reached s s
+unfolding past each
+reached-none s = record { between = []; bytes = λ k. omega arith; state = refl }
+
+pub reached-more : {s t u : Scan} → Reached s t → Reached t u → Reached s u
+reached-more {s} {t} {u} R Q =
+    let a = R .between in
+    let b = Q .between in
+    record {
+      between = a ++ b;
+      bytes = bytes-append a b (R .bytes) (Q .bytes);
+      state = Q .state ∙ ap (λ (v : Scan). past v b) (R .state) ∙ sym (past-append s a b);
+    }
 
 -- a program has read nothing; has read some bytes more; and knows whether they are a sheet
 pub scanned-none : Scanned [] start

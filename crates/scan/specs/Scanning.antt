@@ -116,6 +116,12 @@ bad (Lists left lists) = false
 bad (Ids ids left lists) = false
 bad (Forbids left) = false
 
+-- some bytes lead from one state to another
+pub record Reached (s t : Scan) : Type 0 where
+  pub between : List ℕ
+  pub bytes : (k : ℕ) → getD between k 0 < 256
+  pub state : t ≡ past s between
+
 -- a program that has read these bytes, all of them, is here
 pub record Scanned (b : List ℕ) (s : Scan) : Type 0 where
   pub bytes : (k : ℕ) → getD b k 0 < 256
