@@ -1,5 +1,5 @@
-// Numbers, words and sheets from standard input. No contract can say what a stream has; it says what is done with the memory that is lent, and what is
-// known then of a sheet: which bytes were sent is not, but there are some of which this is held.
+// Numbers, words and sheets from standard input. No contract can say what a stream has; it says what is done with the memory that is lent and, of a
+// sheet, that there are bytes whose front it has and all of which were judged.
 ghost use mathlib.Core.Path.{_≡_};
 ghost use Prim.Native.Nat.{_≤_, min};
 ghost use lib.ListN.{length, drop};
@@ -82,7 +82,7 @@ pub(crate) enum Judged {
 }
 
 // The rest of a sheet is read past, as much at a time as the buffer takes, and judged from the state on that its front led to.
-fn rest_in(many: usize, state: Scan, buffer: &mut [u8]) -> Judged
+fn judge_in(many: usize, state: Scan, buffer: &mut [u8]) -> Judged
     requires { ⌜ 4096 ≡ length (now buffer) ⌝ }
     ensures { λ r. ⌜ Rest many state r ⌝ }
 {
@@ -100,11 +100,11 @@ fn rest_in(many: usize, state: Scan, buffer: &mut [u8]) -> Judged
 }
 
 // The same, with a buffer.
-fn rest(many: usize, state: Scan) -> Judged
+fn judge(many: usize, state: Scan) -> Judged
     ensures { λ r. ⌜ Rest many state r ⌝ }
 {
     let mut buffer = io::buffer();
-    rest_in(many, state, &mut buffer)
+    judge_in(many, state, &mut buffer)
 }
 
 // A sheet of so many bytes: as many as there is room for go to the front of the memory, and all of them are judged.
@@ -116,5 +116,5 @@ pub(crate) fn sheet(many: usize, memory: &mut [u8]) -> Judged
     if !bytes(&mut memory[..kept]) {
         return Judged::CutOff;
     }
-    rest(many - kept, past(start(), &memory[..kept]))
+    judge(many - kept, past(start(), &memory[..kept]))
 }

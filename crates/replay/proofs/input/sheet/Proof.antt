@@ -28,8 +28,8 @@ returns : tie.Need-returns
 unfolding Whole
 returns c = tt
 
-sub-rest : tie.Need-sub-rest
-sub-rest c = search needs
+sub-judge : tie.Need-sub-judge
+sub-judge c = search needs
 
 start-requires : tie.Need-start-requires
 start-requires c κs = search needs
@@ -43,8 +43,8 @@ slice-aggregate-past c = sym (length-take-le _ _ (slice-reshare-prefix-past (c .
 past-requires : tie.Need-past-requires
 past-requires c κs = search needs
 
-rest-requires : tie.Need-rest-requires
-rest-requires c κs = search needs
+judge-requires : tie.Need-judge-requires
+judge-requires c κs = search needs
 
 same-length-2 : tie.Need-same-length-2
 same-length-2 c = search needs
@@ -54,7 +54,7 @@ returns-2 c =
     let a = c .before .before .before .before .before .before .before .before .before .before .before .args in
     let least = c .before .before .before .before .before .before .before .before .before .least in
     let room = c .before .before .before .before .before .before .before .before .before .before .before .pre in
-    whole-read (a .many) (least .result) _ (omega (arith, room, same-length-2 c)) (omega (arith, room, least .ensures .0)) (c .before .before .before .start .ensures) (c .before .past .ensures .1) (c .before .past .ensures .0) (c .rest .result) (c .rest .ensures)
+    whole-read (a .many) (least .result) _ (omega (arith, room, same-length-2 c)) (omega (arith, room, least .ensures .0)) (c .before .before .before .start .ensures) (c .before .past .ensures .1) (c .before .past .ensures .0) (c .judge .result) (c .judge .ensures)
 
 pub sheet-spec : {M : Type 1} → statement M
 sheet-spec =
@@ -66,11 +66,11 @@ sheet-spec =
     bytes-requires
     same-length
     returns
-    sub-rest
+    sub-judge
     start-requires
     slice-reshare-prefix-past
     slice-aggregate-past
     past-requires
-    rest-requires
+    judge-requires
     same-length-2
     returns-2)

@@ -1,4 +1,4 @@
--- `replay::input::rest_in` meets its contract: what was read so far leads to the state that is reached.
+-- `replay::input::judge_in` meets its contract: what was read so far leads to the state that is reached.
 -- Assumes nothing.
 use mathlib.Core.Path.{_≡_, sym}
 use Prim.Native.Nat.{_-_, _≤_}
@@ -8,8 +8,8 @@ use lib.Seq.{length-take-le}
 use borrow.Author.Needs.{needs}
 use Rattle.replay.specs.Input.{Led, Rest}
 use Rattle.replay.proofs.InputLaws.{led-none, led-more, rest-formed}
-use Rattle.replay.proofs.input.rest_in.Statement.{statement}
-use Rattle.replay.proofs.input.rest_in.Tie as tie
+use Rattle.replay.proofs.input.judge_in.Statement.{statement}
+use Rattle.replay.proofs.input.judge_in.Tie as tie
 
 abbrev Inv-loop : tie.InvT-loop
 Inv-loop many buffer₀ left₀ reached₀ buffer left reached = (4096 ≡ length buffer) × (left ≤ many) × Led (many - left) reached₀ reached
@@ -69,8 +69,8 @@ same-length-2 c = search needs
 returns-2 : tie.Need-returns-2 Inv-loop μ-loop
 returns-2 c = rest-formed (c .before .before .loop .inv .2) (omega (arith, c .before .loop-test .left)) (c .formed .ensures)
 
-pub rest-in-spec : {M : Type 1} → statement M
-rest-in-spec =
+pub judge-in-spec : {M : Type 1} → statement M
+judge-in-spec =
     tie.close
     (tie.spec
     Inv-loop
