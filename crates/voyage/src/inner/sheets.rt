@@ -45,11 +45,12 @@ fn piece(fd: i32, state: Scan) -> Progress
     }
 }
 
-// The rest of a file, up to its end, a read that fails, or bytes after which no sheet is to come. The turns are counted down so that the loop is seen to end.
+// The rest of a file, up to its end, a read that fails, or bytes with which no sheet begins.
+// A proved loop has to end, and nothing says that a file does: the turns are counted down from a number that no file uses up.
 fn rest(fd: i32, state: Scan) -> Progress
     ensures { λ r. ⌜ Reached state (r .state) ⌝ }
 {
-    let mut last = Progress { got: 1, state };
+    let mut last = piece(fd, state);
     let mut turns = u64::MAX;
     while turns > 0 {
         let reached = last.state;
@@ -62,7 +63,7 @@ fn rest(fd: i32, state: Scan) -> Progress
     last
 }
 
-// A file of which the memory is full: what is over is judged too.
+// A file that fills the memory: what is over is read past and judged too.
 fn longer(fd: i32, front: &[u8]) -> Kept
     requires { ⌜ 90273 ≡ length (now front) ⌝ }
     ensures { λ r. ⌜ Holds r (now (front .entry)) ⌝ }
@@ -75,7 +76,7 @@ fn longer(fd: i32, front: &[u8]) -> Kept
     Kept::Sheet(front.len(), formed(reached))
 }
 
-// Whether a file that gave no more bytes had no more, and is not one that cannot be read.
+// Whether a file that gave no more bytes came to its end: a read that failed gave none either, and fails again.
 fn ended(fd: i32) -> bool {
     let mut one = [0u8; 1];
     libc::read(fd, &mut one) >= 0

@@ -12,6 +12,9 @@ Inv-loop fd last₀ turns₀ last turns = Reached (last₀ .state) (last .state)
 abbrev μ-loop : tie.MeasureT-loop
 μ-loop fd last₀ turns₀ last turns = turns
 
+piece-requires : tie.Need-piece-requires Inv-loop μ-loop
+piece-requires c κs = tt
+
 loop-holds : tie.Need-loop-holds Inv-loop μ-loop
 loop-holds c = reached-none _
 
@@ -19,10 +22,10 @@ bad-requires : tie.Need-bad-requires Inv-loop μ-loop
 bad-requires c κs = tt
 
 returns : tie.Need-returns Inv-loop μ-loop
-returns c = c .before .before .before .before .loop .inv
+returns c = reached-more (c .before .before .before .before .before .piece .ensures) (c .before .before .before .before .loop .inv)
 
-piece-requires : tie.Need-piece-requires Inv-loop μ-loop
-piece-requires c κs = tt
+piece-requires-2 : tie.Need-piece-requires-2 Inv-loop μ-loop
+piece-requires-2 c κs = tt
 
 sub-turns : tie.Need-sub-turns Inv-loop μ-loop
 sub-turns c = omega arith
@@ -31,10 +34,10 @@ loop-less : tie.Need-loop-less Inv-loop μ-loop
 loop-less c = omega arith
 
 loop-again : tie.Need-loop-again Inv-loop μ-loop
-loop-again c = reached-more (c .before .before .before .before .before .before .before .loop .inv) (c .piece .ensures)
+loop-again c = reached-more (c .before .before .before .before .before .before .before .loop .inv) (c .piece2 .ensures)
 
 returns-2 : tie.Need-returns-2 Inv-loop μ-loop
-returns-2 c = c .before .loop .inv
+returns-2 c = reached-more (c .before .before .piece .ensures) (c .before .loop .inv)
 
 pub rest-spec : {M : Type 1} → statement M
 rest-spec =
@@ -42,10 +45,11 @@ rest-spec =
     (tie.spec
     Inv-loop
     μ-loop
+    piece-requires
     loop-holds
     bad-requires
     returns
-    piece-requires
+    piece-requires-2
     sub-turns
     loop-less
     loop-again
