@@ -108,7 +108,7 @@ fn laid_from_files(names: Names, told: i32, sheet: &[u8], ground: Ground) {
 // Measures a sheet and lays it, from a seed or from files.
 fn laid(names: Names, told: i32, seed: Number, sheet: &[u8]) {
     match bounded::inner::measure(sheet) {
-        Taken::Refused(number) => show::refused(told, number as usize),
+        Taken::Refused(number) => show::refused(told, sheet, number),
         Taken::TooLarge => show::fault(told, TOO_LARGE),
         Taken::Sheet(ground) => match seed {
             Number::Is(n) => laid_from_seed(names, told, n, sheet, ground),
