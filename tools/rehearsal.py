@@ -73,6 +73,8 @@ FILES = {
     "large-and-wrong.sheet": sheet([1] * 5, FALLING, 32, 32, 0),
     "90272.sheet": longest(64),
     "91298.sheet": longest(65),
+    "96428.sheet": longest(70),
+    "90273.sheet": record(1, pack("<H", 65) + bytes(130)) + bytes(90273 - 138),
     "eight.noise": words(5, 3, 8, 1, 9, 2, 7, 4),
     "seven.noise": words(5, 3, 8, 1, 9, 2, 7),
     "empty.noise": b"",
@@ -157,6 +159,8 @@ free.sheet long.noise eight.words refused.result
 --seed 3 empty.sheet refused.result
 --seed 3 90272.sheet refused.result
 --seed 3 91298.sheet refused.result
+--seed 3 96428.sheet refused.result
+--seed 3 90273.sheet refused.result
 --seed 3 /dev/zero refused.result
 --seed 3 4100.sheet refused.result
 --seed 3 large.sheet refused.result

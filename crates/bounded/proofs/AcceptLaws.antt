@@ -5,7 +5,6 @@ use mathlib.Core.Bool.{false}
 use mathlib.Core.List.{List, [], _∷_}
 use mathlib.Core.Path.{_≡_, refl, sym, ap, _∙_}
 use Prim.Native.Nat.{ℕ, _+_, _*_, _≤_}
-use native.Mathlib.Omega.{arith}
 use lib.ListN.{length}
 use borrow.Author.Tests.{eq-eqb}
 use Rattle.records.specs.Laying.{over}
@@ -22,11 +21,9 @@ use Rattle.sheet.specs.Result.{resultOf, resultOutcome, resultAt, resultCalled}
 use Rattle.bounded.specs.declared.inner.Taken.{Taken}
 use Rattle.bounded.specs.declared.inner.Laid.{Laid}
 use Rattle.bounded.specs.Laid.{answer, sheetRefusal, takenOf, takenTold, measureOf, ranOf, laidOf, finish, laidTold, Outcome, outcome, laidAt}
-use Rattle.records.proofs.RecordLaws.{Bytes}
 use Rattle.refusals.proofs.RefusalLaws.{first-none, passed-first, first-passed}
 use Rattle.sheet.proofs.CalledLaws.{sheet-content}
-use Rattle.sheet.proofs.RoundLaws.{sheet-passed, read-longest}
-use Rattle.bounded.proofs.ToldLaws.{told-short}
+use Rattle.sheet.proofs.RoundLaws.{sheet-passed}
 use Rattle.bounded.proofs.TakenLaws.{taken-sheet, lay-sheet}
 use Rattle.bounded.proofs.RunLaws.{result-ran}
 use Rattle.bounded.proofs.KeptLaws.{within, taken-runnable}
@@ -35,7 +32,7 @@ use Rattle.bounded.specs.declared.inner.Laid.the-variants as laid
 
 -- ---- what the library takes
 
-module _ (b : List ℕ) (bytes : Bytes b) (l : Lent) (accepted : firstOf (readTests b l) ≡ 0) where
+module _ (b : List ℕ) (l : Lent) (accepted : firstOf (readTests b l) ≡ 0) where
   -- what `sheet::read` takes has no refusal of its own
   pub read-taken : sheetRefusal b ≡ 0
   unfolding readTests sheetRefusal
@@ -52,9 +49,7 @@ module _ (b : List ℕ) (bytes : Bytes b) (l : Lent) (accepted : firstOf (readTe
   -- and is taken by the programs up to 4,096 cells times patterns
   pub accepted-taken : cells (sheetIn b .grid) * length (sheetIn b .weights) ≤ 4096 → takenOf b ≡ answer (sheetIn b)
   unfolding measured
-  accepted-taken h =
-      let short : length b ≤ 90272 = omega (arith, read-longest b bytes l accepted) in
-      taken-sheet b (told-short b short ∙ read-taken) (measured (sheetIn b)) refl h
+  accepted-taken h = taken-sheet b read-taken (measured (sheetIn b)) refl h
 
 -- ---- what a case comes to
 

@@ -1,16 +1,14 @@
--- What a program keeps of a case suffices: a byte more than a sheet of up to 64 patterns can have, a noise word more than the most cells, and a word for each cell.
--- What is read past changes nothing. Follows docs/RULES.md, "Programs". Assumes nothing.
+-- What a program keeps of noise and words suffices: a noise word more than the most cells, and a word for each cell. What is read past changes nothing.
+-- Follows docs/RULES.md, "Programs". Assumes nothing.
 use mathlib.Core.Bool.{Bool, true, false, not, cond}
 use mathlib.Core.List.{List, _∷_}
 use mathlib.Core.Path.{_≡_, refl, sym, ap, _∙_, subst}
-use Prim.Native.Nat.{ℕ, zero, suc, _*_, _%_, _≤_, _<_}
+use Prim.Native.Nat.{ℕ, zero, suc, _*_, _%_, _≤_}
 use native.Mathlib.Omega.{arith}
 use lib.Dec.{ltb, eqb}
 use lib.ListN.{length, take, drop, take-append-drop}
 use lib.Seq.{length-take-le, take-all}
 use borrow.Author.Tests.{ltb-true, ltb-false, eq-eqb, ne-eqb, not-false}
-use Rattle.refusals.specs.declared.Refusal.{Refusal}
-use Rattle.refusals.specs.Refusals.{number}
 use Rattle.adjacency.specs.Tables.{Table}
 use Rattle.adjacency.specs.Checks.{weightsMisfit}
 use Rattle.grid.specs.Grid.{Grid, cells}
@@ -21,7 +19,7 @@ use Rattle.layout.specs.Sheet.{Sheet}
 use Rattle.layout.specs.Tables.{tableOf}
 use Rattle.layout.specs.Reading.{wellFormed, sheetIn}
 use Rattle.sheet.specs.Called.{formTest, sheetTests, contentTests, measured}
-use Rattle.bounded.specs.Laid.{Told, tooLarge, refused, answer, onward, sheetRefusal, longRefusal, toldRefusal, large, takenAt, takenOf, ranOf, laidOf, Runnable}
+use Rattle.bounded.specs.Laid.{Told, tooLarge, refused, answer, onward, sheetRefusal, large, takenAt, takenOf, ranOf, laidOf, Runnable}
 use Rattle.refusals.proofs.RefusalLaws.{first-passed}
 use Rattle.adjacency.proofs.AcceptedLaws.{accepted-by, long-good}
 use Rattle.adjacency.proofs.WeightLaws.{weighed}
@@ -31,8 +29,8 @@ use Rattle.layout.proofs.ShapeLaws.{formed}
 use Rattle.sheet.proofs.MeasureLaws.{known}
 use Rattle.sheet.proofs.StorableLaws.{scalars-good}
 use Rattle.sheet.proofs.RoundLaws.{sheet-passed}
-use Rattle.bounded.proofs.ToldLaws.{refusal-next, told-long, told-none, long-front}
-use Rattle.bounded.proofs.TakenLaws.{taken-refused, taken-large, taken-sheet}
+use Rattle.bounded.proofs.HeldLaws.{refusal-next}
+use Rattle.bounded.proofs.TakenLaws.{taken-large, taken-sheet}
 use Rattle.bounded.proofs.RunLaws.{runnable-few}
 
 -- ---- what is known of a sheet that is taken
@@ -70,17 +68,17 @@ module _ (b : List ℕ) where
 
   pub taken-means : (s : Sheet) → takenOf b ≡ answer s → (s ≡ sheetIn b) × (sheetRefusal b ≡ 0) × (cells (sheetIn b .grid) * length (sheetIn b .weights) ≤ 4096)
   unfolding kind within takenOf takenAt large measured
-  taken-means s q = first (toldRefusal b) refl
+  taken-means s q = first (sheetRefusal b) refl
     where
-      second : toldRefusal b ≡ 0 → (v : Bool) → ltb 4096 (cells (sheetIn b .grid) * length (sheetIn b .weights)) ≡ v
+      second : sheetRefusal b ≡ 0 → (v : Bool) → ltb 4096 (cells (sheetIn b .grid) * length (sheetIn b .weights)) ≡ v
           → (s ≡ sheetIn b) × (sheetRefusal b ≡ 0) × (cells (sheetIn b .grid) * length (sheetIn b .weights) ≤ 4096)
       second none true h =
           absurd (omega (arith, ap kind (sym (taken-large b none (measured (sheetIn b)) refl (ltb-true 4096 (cells (sheetIn b .grid) * length (sheetIn b .weights)) h)) ∙ q)))
       second none false h =
           let small = ltb-false 4096 (cells (sheetIn b .grid) * length (sheetIn b .weights)) h in
-          (sym (ap (within s) (sym (taken-sheet b none (measured (sheetIn b)) refl small) ∙ q)), told-none b none, small)
+          (sym (ap (within s) (sym (taken-sheet b none (measured (sheetIn b)) refl small) ∙ q)), none, small)
 
-      first : (n : ℕ) → toldRefusal b ≡ n → (s ≡ sheetIn b) × (sheetRefusal b ≡ 0) × (cells (sheetIn b .grid) * length (sheetIn b .weights) ≤ 4096)
+      first : (n : ℕ) → sheetRefusal b ≡ n → (s ≡ sheetIn b) × (sheetRefusal b ≡ 0) × (cells (sheetIn b .grid) * length (sheetIn b .weights) ≤ 4096)
       first zero e = second e (ltb 4096 (cells (sheetIn b .grid) * length (sheetIn b .weights))) refl
       first (suc n) e = absurd (omega (arith, ap kind (sym (ap (λ (k : ℕ). takenAt k (sheetIn b)) e) ∙ q)))
 
@@ -89,22 +87,6 @@ module _ (b : List ℕ) where
   taken-runnable s q =
       let (e, none, small) = taken-means s q in
       subst (λ (x : Sheet). Runnable (tableOf x) (x .weights) (x .grid) (x .forbids)) (sym e) (own-runnable none small)
-
--- ---- the sheet
-
--- of more bytes than are held, the first record alone tells
-taken-long : (b : List ℕ) → 90272 < length b → takenOf b ≡ refused (number (longRefusal b))
-taken-long b h = taken-refused b (longRefusal b) (told-long b h)
-
-kept-sheet : (b : List ℕ) → takenOf (take 90273 b) ≡ takenOf b
-kept-sheet b = go (ltb 90273 (length b)) refl
-  where
-    go : (v : Bool) → ltb 90273 (length b) ≡ v → takenOf (take 90273 b) ≡ takenOf b
-    go true h =
-        let long = ltb-true 90273 (length b) h in
-        taken-long (take 90273 b) (omega (arith, length-take-le 90273 b (omega arith)))
-        ∙ ap (λ (r : Refusal). refused (number r)) (long-front 90273 b (omega arith)) ∙ sym (taken-long b (omega arith))
-    go false h = ap takenOf (take-all 90273 b (ltb-false 90273 (length b) h))
 
 -- ---- noise and words
 
@@ -150,11 +132,9 @@ module _ (t : Table) (weights : List ℕ) (g : Grid) (ns : List ℕ) (R : Runnab
 
 -- ---- the case
 
-pub kept-suffices : (b noise words : List ℕ) → laidOf (take 90273 b) (take 1025 noise) (take 1024 words) ≡ laidOf b noise words
+pub kept-suffices : (b noise words : List ℕ) → laidOf b (take 1025 noise) (take 1024 words) ≡ laidOf b noise words
 unfolding laidOf onward
-kept-suffices b noise words =
-    ap (λ (x : Told Sheet). onward x (λ (s : Sheet). ranOf (given (tableOf s) (s .weights) (s .grid) (take 1025 noise)) (s .forbids) (take 1024 words))) (kept-sheet b)
-    ∙ go (takenOf b) refl
+kept-suffices b noise words = go (takenOf b) refl
   where
     go : (x : Told Sheet) → takenOf b ≡ x
         → onward x (λ (s : Sheet). ranOf (given (tableOf s) (s .weights) (s .grid) (take 1025 noise)) (s .forbids) (take 1024 words))

@@ -1,4 +1,4 @@
-pub mod ToldLaws
+pub mod HeldLaws
 pub mod ReadLaws
 pub mod TakenLaws
 pub mod RunLaws

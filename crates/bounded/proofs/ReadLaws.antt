@@ -1,6 +1,6 @@
 -- Laws of a sheet that is read into memory for every one of up to 64 patterns: its own refusals are all that is left, and what stands where it was read.
 -- Assumes nothing.
-use mathlib.Core.Bool.{Bool, true, false, not}
+use mathlib.Core.Bool.{Bool, true, false, not, cond}
 use mathlib.Core.List.{List, _∷_, _++_}
 use mathlib.Core.Path.{_≡_, refl, sym, ap, _∙_}
 use Prim.Native.Nat.{ℕ, zero, suc, _+_, _-_, _*_, _≤_, _<_}
@@ -20,7 +20,7 @@ use Rattle.layout.specs.Lending.{Lent, lent, filled}
 use Rattle.sheet.specs.declared.Measures.{Measures}
 use Rattle.sheet.specs.declared.SizesAnswer.{SizesAnswer}
 use Rattle.sheet.specs.Called.{scalarTests, contentTests, sheetTests, formTest, measured, sizesTold, sizesAsked, readMisfit, readTests, ReadOutcome, readOutcome, readAt, readCalled}
-use Rattle.bounded.specs.Laid.{sheetRefusal, longRefusal, toldRefusal, Reads}
+use Rattle.bounded.specs.Laid.{sheetRefusal, Held, Reads}
 use Rattle.records.proofs.LayingLaws.{over-whole}
 use Rattle.refusals.proofs.RefusalLaws.{number-positive, first-next, first-passed}
 use Rattle.layout.proofs.ShapeLaws.{Formed, formed}
@@ -28,7 +28,7 @@ use Rattle.layout.proofs.ReadingLaws.{ids-is}
 use Rattle.sheet.proofs.MeasureLaws.{Known, known, Parts, read-parts}
 use Rattle.sheet.proofs.CalledLaws.{sizes-refused, sizes-told, readMisfit-is}
 use Rattle.sheet.proofs.RoundLaws.{sheet-passed}
-use Rattle.bounded.proofs.ToldLaws.{refusal-form, refusal-next, refusal-many, told-short, told-long, told-none}
+use Rattle.bounded.proofs.HeldLaws.{refusal-form, refusal-next, refusal-many, held-whole, held-long}
 use Rattle.sheet.specs.declared.SizesAnswer.the-variants as sizes
 
 -- ---- what an answer says of the sheet
@@ -68,39 +68,43 @@ module _ (b : List ℕ) where
 
   -- ---- what is told of what was read
 
-  -- more bytes than a program holds are refused by their first record
-  pub read-long : (l : Lent) → 90272 < length b → {r : Refusal} → r ≡ longRefusal b → readOutcome (sizesTold (sizes.Refused r)) l ≡ readAt (toldRefusal b) (sheetIn b) l
-  unfolding sizesTold readAt
-  read-long l h {r} e = go (number r) (number-positive r) ∙ ap (λ (n : ℕ). readAt n (sheetIn b) l) (ap number e ∙ sym (told-long b h))
-    where
-      go : (n : ℕ) → (n ≡ 0 → ⊥) → readOutcome (refused n) l ≡ readAt n (sheetIn b) l
-      go zero z = absurd (z refl)
-      go (suc n) z = refl
-
-  -- of others, the sheet's own refusal is told
-  pub read-short : (l : Lent) → length b ≤ 90272 → readAt (sheetRefusal b) (sheetIn b) l ≡ readAt (toldRefusal b) (sheetIn b) l
-  read-short l h = ap (λ (n : ℕ). readAt n (sheetIn b) l) (sym (told-short b h))
-
   -- a refusal is the sheet's own
-  pub read-number : (l l′ : Lent) {a : SizesAnswer} (r : Refusal) → a ≡ sizes.Refused r → readOutcome (sizesTold a) l′ ≡ readAt (toldRefusal b) (sheetIn b) l
-      → toldRefusal b ≡ number r
+  pub read-number : (l l′ : Lent) {a : SizesAnswer} (r : Refusal) → a ≡ sizes.Refused r → readOutcome (sizesTold a) l′ ≡ readAt (sheetRefusal b) (sheetIn b) l
+      → sheetRefusal b ≡ number r
   unfolding sizesTold refusalIn readAt
-  read-number l l′ r is e = go (toldRefusal b) refl (ap (λ (a : SizesAnswer). readOutcome (sizesTold a) l′) (sym is) ∙ e)
+  read-number l l′ r is e = go (sheetRefusal b) refl (ap (λ (a : SizesAnswer). readOutcome (sizesTold a) l′) (sym is) ∙ e)
     where
-      go : (n : ℕ) → toldRefusal b ≡ n → readOutcome (refused (number r)) l′ ≡ readAt n (sheetIn b) l → toldRefusal b ≡ number r
+      go : (n : ℕ) → sheetRefusal b ≡ n → readOutcome (refused (number r)) l′ ≡ readAt n (sheetIn b) l → sheetRefusal b ≡ number r
       go zero q e = absurd (number-positive r (ap (λ (o : ReadOutcome). refusalIn (o .told)) e))
       go (suc n) q e = q ∙ sym (ap (λ (o : ReadOutcome). refusalIn (o .told)) e)
 
   -- an answer says that nothing is refused, how much the sheet holds, and what was read
-  pub read-answer : (l l′ : Lent) {a : SizesAnswer} (m : Measures) → a ≡ sizes.Sheet m → readOutcome (sizesTold a) l′ ≡ readAt (toldRefusal b) (sheetIn b) l
-      → (toldRefusal b ≡ 0) × (m ≡ measured (sheetIn b)) × (l′ ≡ filled (sheetIn b) l)
+  pub read-answer : (l l′ : Lent) {a : SizesAnswer} (m : Measures) → a ≡ sizes.Sheet m → readOutcome (sizesTold a) l′ ≡ readAt (sheetRefusal b) (sheetIn b) l
+      → (sheetRefusal b ≡ 0) × (m ≡ measured (sheetIn b)) × (l′ ≡ filled (sheetIn b) l)
   unfolding sizesTold refusalIn within readAt
-  read-answer l l′ m is e = go (toldRefusal b) refl (ap (λ (a : SizesAnswer). readOutcome (sizesTold a) l′) (sym is) ∙ e)
+  read-answer l l′ m is e = go (sheetRefusal b) refl (ap (λ (a : SizesAnswer). readOutcome (sizesTold a) l′) (sym is) ∙ e)
     where
-      go : (n : ℕ) → toldRefusal b ≡ n → readOutcome (answer m) l′ ≡ readAt n (sheetIn b) l
-          → (toldRefusal b ≡ 0) × (m ≡ measured (sheetIn b)) × (l′ ≡ filled (sheetIn b) l)
+      go : (n : ℕ) → sheetRefusal b ≡ n → readOutcome (answer m) l′ ≡ readAt n (sheetIn b) l
+          → (sheetRefusal b ≡ 0) × (m ≡ measured (sheetIn b)) × (l′ ≡ filled (sheetIn b) l)
       go zero q e = (q, ap (λ (o : ReadOutcome). within m (o .told)) e, ap (λ (o : ReadOutcome). o .lent) e)
       go (suc n) q e = absurd (omega (arith, ap (λ (o : ReadOutcome). refusalIn (o .told)) e))
+
+-- ---- what is told of what is held
+
+module _ {b kept : List ℕ} {judged : Bool} (H : Held b kept judged) (l : Lent) where
+  -- more bytes than are read are refused by what is known of the whole
+  pub read-long : 90272 < length kept → {r : Refusal} → r ≡ cond judged BadCount BadSheet → readOutcome (sizesTold (sizes.Refused r)) l ≡ readAt (sheetRefusal b) (sheetIn b) l
+  unfolding sizesTold readAt number
+  read-long h e =
+      ap (λ (r : Refusal). readOutcome (sizesTold (sizes.Refused r)) l) e ∙ go judged ∙ ap (λ (n : ℕ). readAt n (sheetIn b) l) (sym (held-long H h))
+    where
+      go : (v : Bool) → readOutcome (sizesTold (sizes.Refused (cond v BadCount BadSheet))) l ≡ readAt (cond v 3 10) (sheetIn b) l
+      go true = refl
+      go false = refl
+
+  -- others are the whole
+  pub read-short : length kept ≤ 90272 → readAt (sheetRefusal kept) (sheetIn kept) l ≡ readAt (sheetRefusal b) (sheetIn b) l
+  read-short h = ap (λ (x : List ℕ). readAt (sheetRefusal x) (sheetIn x) l) (held-whole H h)
 
 -- ---- what is lent
 
@@ -176,11 +180,10 @@ pub record Stored (b : List ℕ) (m : Measures) (weights offsets ids forbids : L
   pub scalars : firstOf (scalarTests (tableOf (sheetIn b) .count) (sheetIn b .grid)) ≡ 0
   pub content : firstOf (contentTests (tableOf (sheetIn b)) (sheetIn b .weights) (sheetIn b .grid) (sheetIn b .forbids)) ≡ 0
 
-pub stored : (b : List ℕ) (m : Measures) (l : Lent) {weights offsets ids forbids : List ℕ} → toldRefusal b ≡ 0 → m ≡ measured (sheetIn b)
+pub stored : (b : List ℕ) (m : Measures) (l : Lent) {weights offsets ids forbids : List ℕ} → sheetRefusal b ≡ 0 → m ≡ measured (sheetIn b)
     → lent weights offsets ids forbids ≡ filled (sheetIn b) l → Stored b m weights offsets ids forbids
 unfolding sheetRefusal
-stored b m l told e f =
-    let none = told-none b told in
+stored b m l none e f =
     let s = sheetIn b in
     let tests = sheetTests false (tableOf s) (s .weights) (s .grid) (s .forbids) in
     let w : wellFormed b ≡ true = not-false (wellFormed b) (first-passed (formTest b ∷ tests) none .0) in

@@ -19,7 +19,7 @@ use Rattle.layout.specs.Tables.{tableOf}
 use Rattle.layout.specs.Reading.{sheetIn}
 use Rattle.sheet.specs.declared.Measures.{Measures}
 use Rattle.sheet.specs.Called.{measured}
-use Rattle.bounded.specs.Laid.{tooLarge, refused, answer, onward, toldRefusal, large, takenAt, takenOf, groundOf, measureOf, ranOf, laidOf, takenTold, laidTold, runTold, outcome, laidAt, Runnable}
+use Rattle.bounded.specs.Laid.{tooLarge, refused, answer, onward, sheetRefusal, large, takenAt, takenOf, groundOf, measureOf, ranOf, laidOf, takenTold, laidTold, runTold, outcome, laidAt, Runnable}
 use Rattle.refusals.proofs.RefusalLaws.{number-positive}
 use Rattle.adjacency.proofs.AcceptedLaws.{counted}
 use Rattle.sheet.proofs.MeasureLaws.{scalars-is, judged-is}
@@ -31,7 +31,7 @@ use Rattle.bounded.specs.declared.inner.Laid.the-variants as laid
 -- ---- the sheet
 
 module _ (b : List ℕ) where
-  pub taken-refused : (r : Refusal) → toldRefusal b ≡ number r → takenOf b ≡ refused (number r)
+  pub taken-refused : (r : Refusal) → sheetRefusal b ≡ number r → takenOf b ≡ refused (number r)
   unfolding takenOf takenAt
   taken-refused r e = ap (λ (n : ℕ). takenAt n (sheetIn b)) e ∙ go (number r) (number-positive r)
     where
@@ -40,7 +40,7 @@ module _ (b : List ℕ) where
       go (suc n) z = refl
 
   -- where nothing is refused
-  module _ (none : toldRefusal b ≡ 0) (m : Measures) (e : m ≡ measured (sheetIn b)) where
+  module _ (none : sheetRefusal b ≡ 0) (m : Measures) (e : m ≡ measured (sheetIn b)) where
     taken-size : takenOf b ≡ cond (ltb 4096 (m .height * m .width * m .count)) tooLarge (answer (sheetIn b))
     unfolding takenOf takenAt large measured
     taken-size =

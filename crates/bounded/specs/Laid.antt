@@ -1,23 +1,20 @@
 -- What a case, a sheet's bytes with noise and words, comes to in a program: refused, too large, or the end of its run.
 -- Follows docs/RULES.md, "Programs". Assumes nothing.
-use mathlib.Core.Bool.{Bool, false, cond, _&&_}
+use mathlib.Core.Bool.{Bool, false, cond}
 use mathlib.Core.List.{List, _∷_}
 use mathlib.Core.Path.{_≡_}
-use Prim.Native.Nat.{ℕ, zero, suc, _+_, _*_, _≤_}
+use Prim.Native.Nat.{ℕ, zero, suc, _+_, _*_, _≤_, _<_}
 use lib.Dec.{ltb, eqb}
-use lib.ListN.{length}
-use Rattle.records.specs.Numbers.{u16At, u32At}
+use lib.ListN.{length, getD, take}
 use Rattle.records.specs.Laying.{over}
-use Rattle.refusals.specs.declared.Refusal.{Refusal}
-use Rattle.refusals.specs.declared.Refusal.the-variants.{BadCount, BadSheet}
-use Rattle.refusals.specs.Refusals.{number, firstOf, Asked}
+use Rattle.refusals.specs.Refusals.{firstOf, Asked}
 use Rattle.adjacency.specs.Tables.{Table}
 use Rattle.grid.specs.Grid.{Grid, cells}
 use Rattle.run.specs.Run.{Given, given, Ended, runOf}
 use Rattle.run.specs.Called.{forbidsOf, recordsIn, End}
 use Rattle.layout.specs.Sheet.{Sheet}
 use Rattle.layout.specs.Tables.{tableOf}
-use Rattle.layout.specs.Reading.{sheetIn}
+use Rattle.layout.specs.Reading.{wellFormed, sheetIn}
 use Rattle.sheet.specs.Called.{formTest, sheetTests, scalarTests, contentTests}
 use Rattle.sheet.specs.Result.{resultOf}
 use Rattle.bounded.specs.declared.inner.Ground.{Ground}
@@ -47,21 +44,6 @@ sheetRefusal b =
     let s = sheetIn b in
     firstOf (formTest b ∷ sheetTests false (tableOf s) (s .weights) (s .grid) (s .forbids))
 
--- the first record says that it is a P over 64 and as many weights
-unfoldable pub countsMany : List ℕ → Bool
-unfolding u16At u32At
-countsMany b = eqb (u16At b 4) 1 && (eqb (u32At b 0) (4 + 2 * u16At b 6) && ltb 64 (u16At b 6))
-
--- the refusal of bytes that are more than a program holds, by their first record alone
-unfoldable pub longRefusal : List ℕ → Refusal
-unfolding countsMany
-longRefusal b = cond (countsMany b) BadCount BadSheet
-
--- the number that a program tells: up to 90,272 bytes, and no sheet of up to 64 patterns has more, the sheet's own
-unfoldable pub toldRefusal : List ℕ → ℕ
-unfolding number longRefusal sheetRefusal
-toldRefusal b = cond (ltb 90272 (length b)) (number (longRefusal b)) (sheetRefusal b)
-
 -- over 4,096 cells times patterns
 unfoldable pub large : Grid → ℕ → Bool
 large g P = ltb 4096 (cells g * P)
@@ -74,8 +56,8 @@ takenAt (suc n) s = refused (suc n)
 
 -- what a sheet's bytes are to a program: its refusals, and then its size
 unfoldable pub takenOf : List ℕ → Told Sheet
-unfolding takenAt toldRefusal sheetIn
-takenOf b = takenAt (toldRefusal b) (sheetIn b)
+unfolding takenAt sheetRefusal sheetIn
+takenOf b = takenAt (sheetRefusal b) (sheetIn b)
 
 -- the grid of a sheet, and how many cells it has
 unfoldable pub groundOf : Grid → Ground
@@ -141,6 +123,16 @@ laidAt (refused n) domains out = outcome (refused n) domains out
 laidAt tooLarge domains out = outcome tooLarge domains out
 
 -- ---- what code needs
+
+-- what a program holds of a sheet's bytes: the first 90,273, and whether all of them are a sheet
+pub record Held (b kept : List ℕ) (judged : Bool) : Type 0 where
+  pub bytes : (k : ℕ) → getD b k 0 < 256
+  pub front : kept ≡ take 90273 b
+  pub formed : judged ≡ wellFormed b
+
+-- there are bytes of which this is held
+abbrev pub Front : List ℕ → Bool → Type 0
+Front kept judged = (b : List ℕ) × Held b kept judged
 
 -- nothing is refused but perhaps the noise, and it is not too large
 pub record Runnable (t : Table) (weights : List ℕ) (g : Grid) (forbids : List ℕ) : Type 0 where

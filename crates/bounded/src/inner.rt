@@ -1,8 +1,9 @@
 // Measuring a sheet and laying it, for the programs. What matters is in `sheet::read` and `sheet::run_result`; here is room for them.
+ghost use mathlib.Core.List.{List};
 ghost use mathlib.Core.Path.{_≡_};
-ghost use Prim.Native.Nat.{_≤_};
+ghost use Prim.Native.Nat.{ℕ, _≤_};
 ghost use lib.ListN.{length};
-ghost use Rattle.bounded.specs.Laid.{takenTold, measureOf, laidTold, outcome, laidOf, laidAt};
+ghost use Rattle.bounded.specs.Laid.{takenTold, measureOf, laidTold, outcome, laidOf, laidAt, Held, Front};
 use memory::offsets_to_lend;
 use memory::weights_to_lend;
 use sheet::SizesAnswer;
@@ -33,15 +34,23 @@ pub enum Laid {
     TooLarge,
 }
 
-// What a sheet is to the programs.
-pub fn measure(sheet: &[u8]) -> Taken
-    ensures { λ r. ⌜ takenTold r ≡ measureOf (now (sheet .entry)) ⌝ }
+// What a sheet is to the programs. Of its bytes they hold the front, and whether all of them are a sheet.
+pub fn measure(sheet: &[u8], formed: bool) -> Taken
+    requires { ⌜ Front (now sheet) formed ⌝ }
+    ensures { λ r. ⌜ ((b : List ℕ) → Held b (now (sheet .entry)) formed → takenTold r ≡ measureOf b) ⌝ }
 {
     let mut weights = weights_to_lend();
     let mut offsets = offsets_to_lend();
     let mut ids = memory::ids_to_lend();
     let mut forbids = memory::forbids_to_lend();
-    match reading::read_in(sheet, &mut weights, &mut offsets, &mut ids, &mut forbids) {
+    match reading::read_in(
+        sheet,
+        formed,
+        &mut weights,
+        &mut offsets,
+        &mut ids,
+        &mut forbids,
+    ) {
         SizesAnswer::Refused(refusal) => Taken::Refused(refusals::inner::number(refusal)),
         SizesAnswer::Sheet(m) => {
             let cells = m.height * m.width;
@@ -59,10 +68,17 @@ pub fn measure(sheet: &[u8]) -> Taken
 }
 
 // Lays a sheet with noise and words: its domains at the front of `domains`, and its result at the front of `out`.
-pub fn lay(sheet: &[u8], noise: &[u32], words: &[u32], domains: &mut [u64], out: &mut [u8]) -> Laid
-    requires { ⌜ (1024 ≤ length (now domains)) × (8202 ≤ length (now out)) ⌝ }
-    ensures { λ r. ⌜ outcome (laidTold r) (now (domains .exit)) (now (out .exit))
-        ≡ laidAt (laidOf (now (sheet .entry)) (now (noise .entry)) (now (words .entry))) (now (domains .entry)) (now (out .entry)) ⌝ }
+pub fn lay(
+    sheet: &[u8],
+    formed: bool,
+    noise: &[u32],
+    words: &[u32],
+    domains: &mut [u64],
+    out: &mut [u8],
+) -> Laid
+    requires { ⌜ (1024 ≤ length (now domains)) × (8202 ≤ length (now out)) × Front (now sheet) formed ⌝ }
+    ensures { λ r. ⌜ ((b : List ℕ) → Held b (now (sheet .entry)) formed → outcome (laidTold r) (now (domains .exit)) (now (out .exit))
+        ≡ laidAt (laidOf b (now (noise .entry)) (now (words .entry))) (now (domains .entry)) (now (out .entry))) ⌝ }
 {
     let mut weights = weights_to_lend();
     let mut offsets = offsets_to_lend();
@@ -70,6 +86,7 @@ pub fn lay(sheet: &[u8], noise: &[u32], words: &[u32], domains: &mut [u64], out:
     let mut forbids = memory::forbids_to_lend();
     running::lay_in(
         sheet,
+        formed,
         noise,
         words,
         &mut weights,

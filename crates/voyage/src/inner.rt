@@ -1,6 +1,7 @@
 // A command, carried out. Sentences go to the file that is lent for them: standard error in `ocean`, standard output where they are held to a file.
 ghost use mathlib.Core.Path.{_≡_};
 ghost use Prim.Native.Nat.{_-_};
+ghost use Rattle.bounded.specs.Laid.{Front};
 ghost use Rattle.command.specs.Arguments as meaning;
 ghost use Rattle.command.specs.Arguments.{faultOf, Asked};
 use bounded::inner::Ground;
@@ -15,6 +16,7 @@ use command::sentences::TOO_LARGE;
 
 mod files;
 mod parts;
+mod sheets;
 mod show;
 
 // One argument more, by its number; its text is what the system says.
@@ -40,7 +42,9 @@ pub fn arguments(from: usize, end: usize) -> Plan
 }
 
 // Noise and words from a seed, one of each for each cell.
-fn laid_from_seed(names: Names, told: i32, seed: u32, sheet: &[u8], ground: Ground) {
+fn laid_from_seed(names: Names, told: i32, seed: u32, sheet: &[u8], formed: bool, ground: Ground)
+    requires { ⌜ Front (now sheet) formed ⌝ }
+{
     let cells = ground.cells;
     let mut noise = memory::noise_to_lend();
     let mut words = memory::words_to_lend();
@@ -49,6 +53,7 @@ fn laid_from_seed(names: Names, told: i32, seed: u32, sheet: &[u8], ground: Grou
         names,
         told,
         sheet,
+        formed,
         ground,
         parts::words_of(&noise, cells),
         parts::words_of(&words, cells),
@@ -86,7 +91,9 @@ fn words_from_file(index: usize, told: i32, out: &mut [u32]) -> Words {
 }
 
 // Noise and words from files.
-fn laid_from_files(names: Names, told: i32, sheet: &[u8], ground: Ground) {
+fn laid_from_files(names: Names, told: i32, sheet: &[u8], formed: bool, ground: Ground)
+    requires { ⌜ Front (now sheet) formed ⌝ }
+{
     let mut noise = memory::noise_to_lend();
     let Words::Whole(n) = noise_from_file(names.noise, told, &mut noise) else {
         return;
@@ -99,6 +106,7 @@ fn laid_from_files(names: Names, told: i32, sheet: &[u8], ground: Ground) {
         names,
         told,
         sheet,
+        formed,
         ground,
         parts::words_of(&noise, n),
         parts::words_of(&words, m),
@@ -106,13 +114,15 @@ fn laid_from_files(names: Names, told: i32, sheet: &[u8], ground: Ground) {
 }
 
 // Measures a sheet and lays it, from a seed or from files.
-fn laid(names: Names, told: i32, seed: Number, sheet: &[u8]) {
-    match bounded::inner::measure(sheet) {
+fn laid(names: Names, told: i32, seed: Number, sheet: &[u8], formed: bool)
+    requires { ⌜ Front (now sheet) formed ⌝ }
+{
+    match bounded::inner::measure(sheet, formed) {
         Taken::Refused(number) => show::refused(told, sheet, number),
         Taken::TooLarge => show::fault(told, TOO_LARGE),
         Taken::Sheet(ground) => match seed {
-            Number::Is(n) => laid_from_seed(names, told, n, sheet, ground),
-            Number::Not => laid_from_files(names, told, sheet, ground),
+            Number::Is(n) => laid_from_seed(names, told, n, sheet, formed, ground),
+            Number::Not => laid_from_files(names, told, sheet, formed, ground),
         },
     }
 }
@@ -120,10 +130,10 @@ fn laid(names: Names, told: i32, seed: Number, sheet: &[u8]) {
 // A sheet from a file.
 fn laid_from_file(names: Names, told: i32, seed: Number) {
     let mut bytes = memory::sheet_to_lend();
-    let files::Loaded::Bytes(n, _) = files::load(names.sheet, told, &mut bytes) else {
+    let sheets::Kept::Sheet(n, formed) = sheets::load(names.sheet, told, &mut bytes) else {
         return;
     };
-    laid(names, told, seed, parts::bytes_of(&bytes, n));
+    laid(names, told, seed, parts::bytes_of(&bytes, n), formed);
 }
 
 // The practice ocean, or the sheet that is named; nothing is read or written where something is wrong with the names.
@@ -135,7 +145,8 @@ fn laid_as_asked(names: Names, told: i32, seed: Number) {
     }
     if names.sheet == 0 {
         let sheet = practice::sheet();
-        laid(names, told, seed, &sheet);
+        let formed = sheets::whole(&sheet);
+        laid(names, told, seed, &sheet, formed);
         return;
     }
     laid_from_file(names, told, seed);

@@ -1,48 +1,41 @@
 // A sheet is read into memory that has room for every one of up to 64 patterns. Follows docs/RULES.md, "Programs".
+ghost use mathlib.Core.Bool.{cond};
+ghost use mathlib.Core.List.{List};
 ghost use mathlib.Core.Path.{_≡_};
-ghost use Prim.Native.Nat.{_≤_};
-ghost use lib.ListN.{length};
+ghost use Prim.Native.Nat.{ℕ};
+ghost use Rattle.refusals.specs.declared.Refusal.the-variants.{BadCount, BadSheet};
 ghost use Rattle.layout.specs.Lending.{lent};
 ghost use Rattle.layout.specs.Reading.{sheetIn};
 ghost use Rattle.sheet.specs.Called.{sizesTold, readOutcome, readAt};
-ghost use Rattle.bounded.specs.Laid.{longRefusal, toldRefusal, Reads};
-use records::inner::u16_at;
-use records::inner::u32_at;
+ghost use Rattle.bounded.specs.Laid.{sheetRefusal, Held, Reads};
 use refusals::Refusal;
 use sheet::SizesAnswer;
 
-// The refusal of bytes that are more than a program holds, by their first record alone.
-fn long_refusal(sheet: &[u8]) -> Refusal
-    requires { ⌜ 8 ≤ length (now sheet) ⌝ }
-    ensures { λ r. ⌜ r ≡ longRefusal (now (sheet .entry)) ⌝ }
+// The refusal of more bytes than a sheet of up to 64 patterns has, by whether they are a sheet.
+fn long_refusal(formed: bool) -> Refusal
+    ensures { λ r. ⌜ r ≡ cond formed BadCount BadSheet ⌝ }
 {
-    let count = u16_at(sheet, 6);
-    if u16_at(sheet, 4) != 1 {
-        return Refusal::BadSheet;
-    }
-    if u32_at(sheet, 0) != 4 + 2 * count {
-        return Refusal::BadSheet;
-    }
-    if 64 < count {
+    if formed {
         return Refusal::BadCount;
     }
     Refusal::BadSheet
 }
 
-// Reads a sheet, or refuses it by the first refusal that is told of it.
+// Reads the sheet of whose bytes this is held, or refuses it by its own first refusal.
 pub(crate) fn read_in(
     sheet: &[u8],
+    formed: bool,
     weights: &mut [u32],
     offsets: &mut [u32],
     ids: &mut [u8],
     forbids: &mut [u32],
 ) -> SizesAnswer
     requires { ⌜ Reads (now weights) (now offsets) (now ids) (now forbids) ⌝ }
-    ensures { λ r. ⌜ readOutcome (sizesTold r) (lent (now (weights .exit)) (now (offsets .exit)) (now (ids .exit)) (now (forbids .exit)))
-        ≡ readAt (toldRefusal (now (sheet .entry))) (sheetIn (now (sheet .entry))) (lent (now (weights .entry)) (now (offsets .entry)) (now (ids .entry)) (now (forbids .entry))) ⌝ }
+    ensures { λ r. ⌜ ((b : List ℕ) → Held b (now (sheet .entry)) formed → readOutcome (sizesTold r) (lent (now (weights .exit)) (now (offsets .exit)) (now (ids .exit)) (now (forbids .exit)))
+        ≡ readAt (sheetRefusal b) (sheetIn b) (lent (now (weights .entry)) (now (offsets .entry)) (now (ids .entry)) (now (forbids .entry)))) ⌝ }
 {
     if 90272 < sheet.len() {
-        return SizesAnswer::Refused(long_refusal(sheet));
+        return SizesAnswer::Refused(long_refusal(formed));
     }
     match sheet::sizes(sheet) {
         SizesAnswer::Refused(refusal) => SizesAnswer::Refused(refusal),

@@ -1,12 +1,13 @@
 // A sheet that was read is run, in work memory for 4,096 cells times patterns. Follows docs/RULES.md, "Programs".
+ghost use mathlib.Core.List.{List};
 ghost use mathlib.Core.Path.{_≡_};
-ghost use Prim.Native.Nat.{_≤_};
+ghost use Prim.Native.Nat.{ℕ, _≤_};
 ghost use lib.ListN.{length};
 ghost use Rattle.adjacency.specs.Tables.{table};
 ghost use Rattle.grid.specs.Grid.{grid};
 ghost use Rattle.run.specs.Run.{given};
 ghost use Rattle.run.specs.Called.{answerTold};
-ghost use Rattle.bounded.specs.Laid.{laidTold, runTold, outcome, ranOf, laidOf, laidAt, Runnable, Reads};
+ghost use Rattle.bounded.specs.Laid.{laidTold, runTold, outcome, ranOf, laidOf, laidAt, Runnable, Held, Front, Reads};
 use crate::inner::Laid;
 use crate::inner::memory;
 use crate::inner::reading::read_in;
@@ -77,6 +78,7 @@ fn run_in(
 // The sheet is read into slices that are long enough, and run where it is not too large.
 pub(crate) fn lay_in(
     sheet: &[u8],
+    formed: bool,
     noise: &[u32],
     words: &[u32],
     weights: &mut [u32],
@@ -86,11 +88,11 @@ pub(crate) fn lay_in(
     domains: &mut [u64],
     out: &mut [u8],
 ) -> Laid
-    requires { ⌜ Reads (now weights) (now offsets) (now ids) (now forbids) × (1024 ≤ length (now domains)) × (8202 ≤ length (now out)) ⌝ }
-    ensures { λ r. ⌜ outcome (laidTold r) (now (domains .exit)) (now (out .exit))
-        ≡ laidAt (laidOf (now (sheet .entry)) (now (noise .entry)) (now (words .entry))) (now (domains .entry)) (now (out .entry)) ⌝ }
+    requires { ⌜ Reads (now weights) (now offsets) (now ids) (now forbids) × (1024 ≤ length (now domains)) × (8202 ≤ length (now out)) × Front (now sheet) formed ⌝ }
+    ensures { λ r. ⌜ ((b : List ℕ) → Held b (now (sheet .entry)) formed → outcome (laidTold r) (now (domains .exit)) (now (out .exit))
+        ≡ laidAt (laidOf b (now (noise .entry)) (now (words .entry))) (now (domains .entry)) (now (out .entry))) ⌝ }
 {
-    match read_in(sheet, weights, offsets, ids, forbids) {
+    match read_in(sheet, formed, weights, offsets, ids, forbids) {
         SizesAnswer::Refused(refusal) => Laid::Refused(refusals::inner::number(refusal)),
         SizesAnswer::Sheet(m) => {
             let count = m.count;

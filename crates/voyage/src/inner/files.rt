@@ -69,12 +69,12 @@ fn reason(error: i32) -> usize {
 }
 
 // Tells the person why a file could not be opened or read, just after the call that failed.
-fn failed(index: usize, told: i32) {
+pub(crate) fn failed(index: usize, told: i32) {
     let error = os::errno();
     tell(index, told, reason(error));
 }
 
-fn open_read(index: usize) -> i32 {
+pub(crate) fn open_read(index: usize) -> i32 {
     let mut path = io::buffer();
     let n = name(index, &mut path);
     os::open_read(&path[..n])

@@ -1,4 +1,5 @@
 // What the person is shown: a chart, a picture, or one sentence.
+ghost use Rattle.bounded.specs.Laid.{Front};
 use crate::inner::files;
 use crate::inner::parts::domains_of;
 use bounded::inner::Ground;
@@ -172,14 +173,17 @@ pub(crate) fn run(
     names: Names,
     told: i32,
     sheet: &[u8],
+    formed: bool,
     ground: Ground,
     noise: &[u32],
     words: &[u32],
-) {
+)
+    requires { ⌜ Front (now sheet) formed ⌝ }
+{
     let cells = ground.cells;
     let mut domains = memory::domains_to_lend();
     let mut bytes = memory::result_to_lend();
-    match bounded::inner::lay(sheet, noise, words, &mut domains, &mut bytes) {
+    match bounded::inner::lay(sheet, formed, noise, words, &mut domains, &mut bytes) {
         Laid::Refused(number) => refused(told, sheet, number),
         Laid::TooLarge => fault(told, TOO_LARGE),
         Laid::Ended(end, used, length) => laid(

@@ -1,0 +1,4 @@
+pub mod AfterLaws
+pub mod PayloadLaws
+pub mod ForbidLaws
+pub mod ScanLaws
