@@ -48,7 +48,7 @@ def alone(count, width, height):
 
 FREE = free([1, 2, 3], 4, 2, 1)
 FALLING = [[0, 1, 2, 3, 4]] * 19 + [[1, 0]]
-ONE_SIDED = [[1]] * 4 + [[0]] * 3 + [[1]]
+ONE_SIDED = [[0, 1]] * 7 + [[1]]
 FILES = {
     "free.sheet": FREE,
     "practice.sheet": sheet_bytes(),
@@ -63,8 +63,8 @@ FILES = {
     "weights.sheet": free([1024, 1], 4, 2, 1),
     "list.sheet": free([1, 2, 3], 4, 2, 1).replace(bytes([3, 0, 1, 2]), bytes([3, 0, 2, 1]), 1),
     "disagree.sheet": sheet([1, 1], ONE_SIDED, 3, 1, 1),
-    "cell.sheet": free([1, 2, 3], 4, 2, 1, [(8, 0, 0)]),
-    "pattern.sheet": free([1, 2, 3], 4, 2, 1, [(7, 3, 0)]),
+    "cell.sheet": free([1, 2, 3], 4, 2, 1, [(7, 2, 0), (8, 3, 0)]),
+    "pattern.sheet": free([1, 2, 3], 4, 2, 1, [(7, 2, 0), (0, 0, 1), (7, 3, 0), (8, 0, 0)]),
     "kind.sheet": free([1, 2, 3], 4, 2, 1, [(7, 0, 2)]),
     "cut.sheet": FREE[:-1],
     "more.sheet": FREE + b"\0",

@@ -208,7 +208,7 @@ pub fn list_of<'a>(count: usize, offsets: &[u32], ids: &'a [u8], p: usize, d: us
 }
 
 // Whether x is in the list.
-fn in_list(x: usize, list: &[u8]) -> bool
+pub fn in_list(x: usize, list: &[u8]) -> bool
     ensures { λ r. ⌜ r ≡ elem x (now (list .entry)) ⌝ }
 {
     let mut i = 0;
@@ -261,7 +261,7 @@ fn offsets_ok(count: usize, offsets: &[u32], ids: &[u8]) -> bool
 }
 
 // Whether a list is not empty, ascends, and stays below `count`.
-fn list_ok(count: usize, list: &[u8]) -> bool
+pub fn list_ok(count: usize, list: &[u8]) -> bool
     ensures { λ r. ⌜ r ≡ listOk count (now (list .entry)) ⌝ }
 {
     if list.len() == 0 {
@@ -309,7 +309,7 @@ pub fn bad_list(count: usize, offsets: &[u32], ids: &[u8]) -> bool
 // ---- agreement
 
 // Whether each q in p's list for d has p in its own list for the opposite.
-fn agrees_at(count: usize, offsets: &[u32], ids: &[u8], p: usize, d: usize) -> bool
+pub fn agrees_at(count: usize, offsets: &[u32], ids: &[u8], p: usize, d: usize) -> bool
     requires { ⌜ Listed (table count (now offsets) (now ids)) × (p < count) × (d < 4) ⌝ }
     ensures { λ r. ⌜ r ≡ agreesAt (table count (now (offsets .entry)) (now (ids .entry))) p d ⌝ }
 {

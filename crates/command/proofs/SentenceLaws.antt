@@ -12,8 +12,13 @@ use lib.Seq.{drop-cons}
 use borrow.Author.Tests.{lt-ltb, le-ltb, eq-eqb, ne-eqb, ltb-false, eqb-false}
 use Rattle.text.specs.Numbers.{digits, decimal}
 use Rattle.text.specs.Pages.{Page, put, ascii, line}
-use Rattle.text.proofs.PageLaws.{put-none, put-cons}
+use Rattle.directions.specs.Directions.{opposite}
+use Rattle.faults.specs.declared.inner.Place.{Place}
+use Rattle.command.specs.Places.{ways, backs, listText, besideText, pairText, forbidText, placeText}
 use Rattle.command.specs.Sentences.{sentences, refusalText, faults, faultText, shownByte, shown, fileFaults, fileText}
+use Rattle.text.proofs.PageLaws.{put-none, put-cons}
+use Rattle.directions.proofs.DirectionLaws.{of-four}
+use Rattle.faults.specs.declared.inner.Place.the-variants as at
 
 -- ---- a byte
 
@@ -43,6 +48,12 @@ module _ (name : List ℕ) {R : Page} where
   pub shown-end : (i : ℕ) (p : Page) → length name ≤ i → put (shown (drop i name)) p ≡ R → p ≡ R
   unfolding shown
   shown-end i p h inv = sym (put-none p) ∙ (rw (drop-of-length-le name h) at inv)
+
+-- ---- a place
+
+-- what is put for a place that is known
+pub put-placed : (p : Page) {place known : Place} {r : Page} → place ≡ known → r ≡ put (placeText known) p → r ≡ put (placeText place) p
+put-placed p e f = f ∙ ap (λ (x : Place). put (placeText x) p) (sym e)
 
 -- ---- one line
 
@@ -110,16 +121,63 @@ unfolding shown
 plain-shown [] = plain-none
 plain-shown (b ∷ name) = plain-cons (shownByte b) (shown name) (shown-stays b) (plain-shown name)
 
--- each sentence is one line, whatever its number and whatever bytes the name of a file has
+-- where a sheet is wrong does not end the line
 
-pub refusal-one-line : (number : ℕ) → OneLine (refusalText number)
+plain-list : (p d : ℕ) → Plain (listText p d)
+unfolding listText decimal line
+plain-list p d =
+    let a = ascii ": what may stand " ++ line d ways in
+    let b = a ++ ascii " of pattern " in
+    let start = plain-append (ascii ": what may stand ") (line d ways) (λ t. refl) (plain-line d ways) in
+    plain-append b (decimal p) (plain-append a (ascii " of pattern ") start (λ t. refl)) (plain-digits 20 p)
+
+plain-beside : (start : List ℕ) (q : ℕ) (verb names : List ℕ) (d p : ℕ) → Plain start → Plain verb → Plain (besideText start q verb names d p)
+unfolding besideText decimal line
+plain-beside start q verb names d p e f =
+    let a = start ++ decimal q in
+    let b = a ++ verb in
+    let c = b ++ line d names in
+    let one = plain-append start (decimal q) e (plain-digits 20 q) in
+    let way = plain-append b (line d names) (plain-append a verb one f) (plain-line d names) in
+    plain-append (c ++ ascii " of ") (decimal p) (plain-append c (ascii " of ") way (λ t. refl)) (plain-digits 20 p)
+
+plain-forbid : (i : ℕ) (names : List ℕ) (n : ℕ) → Plain names → Plain (forbidText i names n)
+unfolding forbidText decimal line
+plain-forbid i names n e =
+    let a = ascii ": forbid " ++ decimal i in
+    let start = plain-append (ascii ": forbid ") (decimal i) (λ t. refl) (plain-digits 20 i) in
+    plain-append (a ++ names) (decimal n) (plain-append a names start e) (plain-digits 20 n)
+
+plain-place : (place : Place) → Plain (placeText place)
+unfolding placeText pairText line
+plain-place at.Nowhere = plain-none
+plain-place (at.List p d) = plain-list p d
+plain-place (at.Pair p d q) =
+    plain-append
+    (besideText (ascii ": ") q (ascii " may stand ") ways d p)
+    (besideText (ascii ", but not ") p (ascii " ") backs d q)
+    (plain-beside (ascii ": ") q (ascii " may stand ") ways d p (λ t. refl) (λ t. refl))
+    (plain-beside (ascii ", but not ") p (ascii " ") backs d q (λ t. refl) (λ t. refl))
+plain-place (at.Cell i c) = plain-forbid i (ascii " names cell ") c (λ t. refl)
+plain-place (at.Pattern i p) = plain-forbid i (ascii " names pattern ") p (λ t. refl)
+
+-- the name that stands for an opposite is that of the opposite
+pub back-name : (d : ℕ) → d < 4 → line d backs ≡ line (opposite d) ways
+unfolding line backs ways opposite
+back-name = of-four (λ d. line d backs ≡ line (opposite d) ways) refl refl refl refl
+
+-- each sentence is one line, whatever its number and its place, and whatever bytes the name of a file has
+
+pub refusal-one-line : (number : ℕ) (place : Place) → OneLine (refusalText number place)
 unfolding refusalText decimal line
-refusal-one-line number =
+refusal-one-line number place =
     let a = ascii "ocean: refused: " ++ decimal number in
     let b = a ++ (32 ∷ []) in
+    let c = b ++ line number sentences in
     let start = plain-append (ascii "ocean: refused: ") (decimal number) (λ t. refl) (plain-digits 20 number) in
     let space = plain-append a (32 ∷ []) start (λ t. refl) in
-    one-line (b ++ line number sentences) (10 ∷ []) (plain-append b (line number sentences) space (plain-line number sentences)) refl
+    let sentence = plain-append b (line number sentences) space (plain-line number sentences) in
+    one-line (c ++ placeText place) (ascii ".\n") (plain-append c (placeText place) sentence (plain-place place)) refl
 
 pub fault-one-line : (fault : ℕ) → OneLine (faultText fault)
 unfolding faultText line

@@ -1,3 +1,4 @@
+pub mod Places
 pub mod Sentences
 pub mod Arguments
 pub mod Files

@@ -6,14 +6,17 @@ use Prim.Native.Nat.{ℕ}
 use lib.Dec.{ltb, eqb}
 use Rattle.text.specs.Pages.{ascii, line}
 use Rattle.text.specs.Numbers.{decimal}
+use Rattle.faults.specs.declared.inner.Place.{Place}
+use Rattle.command.specs.Places.{placeText}
 
 -- the name of each refusal and what it means, one to a line, from 0 for none
 unfoldable pub sentences : List ℕ
-sentences = ascii "Accepted: nothing is refused.\nBadSize: a side of the grid is 0 or over 64, or there are over 1,024 cells.\nBadWrap: the wrap mode is over 3.\nBadCount: there is no pattern, or there are over 64.\nBadWeights: the weights add up to more than 1,024.\nBadLength: the noise is not one 32-bit word for each cell.\nBadList: a list of neighbours is empty, not strictly ascending, or names a pattern that is not there.\nDisagree: a pattern may stand beside another that may not stand beside it.\nBadCell: a forbid names a cell that is not in the grid.\nBadPattern: a forbid names a pattern that is not there.\nBadSheet: the file is no sheet: a record has the wrong length or kind, a forbid's third number is over 1, or there are over 4,096 forbids.\nBadDirection: the direction is over 3."
+sentences = ascii "Accepted: nothing is refused\nBadSize: a side of the grid is 0 or over 64, or there are over 1,024 cells\nBadWrap: the wrap mode is over 3\nBadCount: there is no pattern, or there are over 64\nBadWeights: the weights add up to more than 1,024\nBadLength: the noise is not one 32-bit word for each cell\nBadList: a list of neighbours is empty, not strictly ascending, or names a pattern that is not there\nDisagree: a pattern may stand beside another that may not stand beside it\nBadCell: a forbid names a cell that is not in the grid\nBadPattern: a forbid names a pattern that is not there\nBadSheet: the file is no sheet: a record has the wrong length or kind, a forbid's third number is over 1, or there are over 4,096 forbids\nBadDirection: the direction is over 3"
 
--- why a sheet was refused, by the refusal's number
-unfoldable pub refusalText : ℕ → List ℕ
-refusalText number = ascii "ocean: refused: " ++ decimal number ++ (32 ∷ []) ++ line number sentences ++ (10 ∷ [])
+-- why a sheet was refused, by the refusal's number, and where it is wrong
+unfoldable pub refusalText : ℕ → Place → List ℕ
+unfolding placeText
+refusalText number place = ascii "ocean: refused: " ++ decimal number ++ (32 ∷ []) ++ line number sentences ++ placeText place ++ ascii ".\n"
 
 -- what is wrong with what is asked, one to a line, from 0 for nothing
 unfoldable pub faults : List ℕ

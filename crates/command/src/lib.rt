@@ -2,4 +2,5 @@
 // Follows docs/RULES.md, "Refusals" and "Programs".
 pub mod arguments;
 pub mod files;
+mod places;
 pub mod sentences;

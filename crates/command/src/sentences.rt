@@ -2,6 +2,8 @@
 ghost use mathlib.Core.Path.{_≡_};
 ghost use Rattle.text.specs.Pages.{page, put};
 ghost use Rattle.command.specs.Sentences.{refusalText, faultText, shownByte, shown, fileText};
+use crate::places::put_place;
+use faults::inner::Place;
 use text::put_byte;
 use text::put_decimal;
 use text::put_line;
@@ -27,20 +29,21 @@ pub const CUT: usize = 5;
 
 pub const UNWRITTEN: usize = 6;
 
-// Why a sheet was refused, by the refusal's number.
-pub fn put_refusal(number: usize, at: usize, out: &mut [u8]) -> usize
-    ensures { λ r. ⌜ page (now (out .exit)) r ≡ put (refusalText number) (page (now (out .entry)) at) ⌝ }
+// Why a sheet was refused, by the refusal's number, and where it is wrong.
+pub fn put_refusal(number: usize, place: Place, at: usize, out: &mut [u8]) -> usize
+    ensures { λ r. ⌜ page (now (out .exit)) r ≡ put (refusalText number place) (page (now (out .entry)) at) ⌝ }
 {
     let a = put_text(b"ocean: refused: ", at, out);
     let b = put_decimal(number, a, out);
     let c = put_byte(b' ', b, out);
     let d = put_line(
-        b"Accepted: nothing is refused.\nBadSize: a side of the grid is 0 or over 64, or there are over 1,024 cells.\nBadWrap: the wrap mode is over 3.\nBadCount: there is no pattern, or there are over 64.\nBadWeights: the weights add up to more than 1,024.\nBadLength: the noise is not one 32-bit word for each cell.\nBadList: a list of neighbours is empty, not strictly ascending, or names a pattern that is not there.\nDisagree: a pattern may stand beside another that may not stand beside it.\nBadCell: a forbid names a cell that is not in the grid.\nBadPattern: a forbid names a pattern that is not there.\nBadSheet: the file is no sheet: a record has the wrong length or kind, a forbid's third number is over 1, or there are over 4,096 forbids.\nBadDirection: the direction is over 3.",
+        b"Accepted: nothing is refused\nBadSize: a side of the grid is 0 or over 64, or there are over 1,024 cells\nBadWrap: the wrap mode is over 3\nBadCount: there is no pattern, or there are over 64\nBadWeights: the weights add up to more than 1,024\nBadLength: the noise is not one 32-bit word for each cell\nBadList: a list of neighbours is empty, not strictly ascending, or names a pattern that is not there\nDisagree: a pattern may stand beside another that may not stand beside it\nBadCell: a forbid names a cell that is not in the grid\nBadPattern: a forbid names a pattern that is not there\nBadSheet: the file is no sheet: a record has the wrong length or kind, a forbid's third number is over 1, or there are over 4,096 forbids\nBadDirection: the direction is over 3",
         number,
         c,
         out,
     );
-    put_byte(b'\n', d, out)
+    let e = put_place(place, d, out);
+    put_text(b".\n", e, out)
 }
 
 // What is wrong with what is asked, by the fault's number.

@@ -10,7 +10,7 @@ ghost use Rattle.adjacency.specs.Tables.{table};
 ghost use Rattle.grid.specs.Grid.{grid};
 ghost use Rattle.choice.specs.Observer.{sightOf};
 ghost use Rattle.run.specs.Run.{given, sighted};
-ghost use Rattle.run.specs.Called.{forbidTests, forbidsOf, recordsIn, memory, outcome, answerTold};
+ghost use Rattle.run.specs.Called.{placeTests, forbidTests, forbidsOf, recordsIn, memory, outcome, answerTold};
 ghost use Rattle.run.specs.Steps.{asking};
 ghost use Rattle.run.specs.Stages.{stateIn, stageOf, standing, Standing, beginning, layAt, concluding, Concluded};
 use crate::Answer;
@@ -274,6 +274,13 @@ fn turns(
 }
 
 // ---- forbids that are lent as numbers
+
+// The number of one forbid's refusal: 8 for its cell, 9 for its pattern, 0 for none.
+pub fn judge(cell: u32, pattern: u32, count: usize, width: usize, height: usize) -> u32
+    ensures { λ r. ⌜ ((mode : ℕ) → r ≡ firstOf (placeTests count (grid width height mode) cell pattern)) ⌝ }
+{
+    crate::check::judge(cell, pattern, count, width, height)
+}
 
 // The number of the first refusal of forbids that are lent as numbers, 0 for none.
 pub fn judge_all(forbids: &[u32], count: usize, width: usize, height: usize) -> u32

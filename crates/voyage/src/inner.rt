@@ -118,7 +118,7 @@ fn laid(names: Names, told: i32, seed: Number, sheet: &[u8], formed: bool)
     requires { ⌜ Front (now sheet) formed ⌝ }
 {
     match bounded::inner::measure(sheet, formed) {
-        Taken::Refused(number) => show::refused(told, number as usize),
+        Taken::Refused(number) => show::refused(told, sheet, number),
         Taken::TooLarge => show::fault(told, TOO_LARGE),
         Taken::Sheet(ground) => match seed {
             Number::Is(n) => laid_from_seed(names, told, n, sheet, formed, ground),

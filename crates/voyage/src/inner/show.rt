@@ -10,10 +10,11 @@ use command::sentences::TOO_LARGE;
 use command::sentences::UNWRITTEN;
 use libc::STDOUT_FILENO;
 
-// Why a sheet was refused.
-pub(crate) fn refused(told: i32, number: usize) {
+// Why a sheet was refused, and where it is wrong.
+pub(crate) fn refused(told: i32, sheet: &[u8], number: u32) {
     let mut page = io::buffer();
-    let n = command::sentences::put_refusal(number, 0, &mut page);
+    let place = faults::inner::place_in(sheet, number);
+    let n = command::sentences::put_refusal(number as usize, place, 0, &mut page);
     files::write(told, &page, n);
 }
 
@@ -183,7 +184,7 @@ pub(crate) fn run(
     let mut domains = memory::domains_to_lend();
     let mut bytes = memory::result_to_lend();
     match bounded::inner::lay(sheet, formed, noise, words, &mut domains, &mut bytes) {
-        Laid::Refused(number) => refused(told, number as usize),
+        Laid::Refused(number) => refused(told, sheet, number),
         Laid::TooLarge => fault(told, TOO_LARGE),
         Laid::Ended(end, used, length) => laid(
             names,

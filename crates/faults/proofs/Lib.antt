@@ -1,0 +1,4 @@
+pub mod SearchLaws
+pub mod EndLaws
+pub mod SheetLaws
+pub mod PlaceLaws
