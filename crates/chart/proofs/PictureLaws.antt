@@ -1,8 +1,8 @@
 -- The ways in which the picture's calls put their texts, over plain variables: which test led there, and what was put.
 -- Assumes nothing.
 use mathlib.Core.Bool.{Bool, true, false}
-use mathlib.Core.List.{List, [], _∷_, _++_}
-use mathlib.Core.Path.{_≡_, refl, sym, ap, _∙_}
+use mathlib.Core.List.{List, [], _∷_}
+use mathlib.Core.Path.{_≡_, sym, ap, _∙_}
 use Prim.Native.Nat.{ℕ, _+_, _-_, _*_, _/_, _%_, _≤_, _<_}
 use native.Mathlib.Decide.{decLt}
 use native.Mathlib.Nat.{le-of-lt, min-eq-left, min-eq-right, div-mul-le-self}
@@ -10,12 +10,12 @@ use native.Mathlib.Omega.{arith}
 use lib.ListN.{take, drop}
 use borrow.Author.Tests.{lt-ltb, le-ltb, eq-eqb, ne-eqb}
 use Rattle.words.specs.Words.{alone, howMany, least}
-use Rattle.text.specs.Pages.{Page, put, ascii, texts, line}
+use Rattle.text.specs.Pages.{Page, put, ascii, texts}
 use Rattle.text.specs.Numbers.{decimal}
 use Rattle.text.proofs.PageLaws.{put-none, puts}
 use Rattle.chart.specs.Signs.{joinsX, joinsY}
 use Rattle.chart.specs.Tallies.{tally, alike}
-use Rattle.chart.specs.Chart.{rowCount, rowOf, endText, labelText}
+use Rattle.chart.specs.Chart.{rowCount, endText, labelText}
 use Rattle.chart.specs.Picture.{part, colourText, squareText, fillText, toldText, markText, tilesText, pictureRow, beneath, breadth, strokeText, uprightText, levelText, sizeText, keyText, footText, captionText, swatchText, shownText, tailText}
 
 -- ---- parts in a row, with what they were made of

@@ -1,6 +1,6 @@
 -- The chart of an ocean as text: a grid of cells with its borders, the end of the run in words, and a legend.
 -- Follows docs/RULES.md, "Domains", "Grid" and "Run". Assumes nothing.
-use mathlib.Core.Bool.{Bool, true, false, cond}
+use mathlib.Core.Bool.{Bool, cond}
 use mathlib.Core.List.{List, [], _∷_, _++_}
 use Prim.Native.Nat.{ℕ, _+_, _*_, _/_, _%_}
 use lib.Dec.{eqb}

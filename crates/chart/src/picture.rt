@@ -1,11 +1,9 @@
 // The picture of an ocean, as SVG: a square for each cell, coloured by its pattern. Each call puts the text of one definition.
 ghost use mathlib.Core.Path.{_≡_};
-ghost use Prim.Native.Nat.{_+_, _<_, _≤_, min};
+ghost use Prim.Native.Nat.{_+_, _<_, _≤_};
 ghost use Rattle.text.specs.Pages.{page, put, texts};
-ghost use Rattle.chart.specs.Picture.{part, colourText, squareText, placeText, fillText, toldText, markText, tileText, tilesText, pictureRow, strokeText, uprightText, levelText, sizeText, hatchText, seamsText, keyText, footText, headText, besideText, captionText, swatchText, shownText, tailText};
+ghost use Rattle.chart.specs.Picture.{part, colourText, squareText, placeText, fillText, toldText, markText, tileText, tilesText, pictureRow, strokeText, uprightText, levelText, sizeText, keyText, footText, headText, besideText, captionText, swatchText, shownText, tailText};
 ghost use Rattle.chart.specs.Picture as meaning;
-ghost use Rattle.chart.specs.Chart.{rowCount, rowOf};
-ghost use lib.ListN.{length};
 use crate::signs::joins_x;
 use crate::signs::joins_y;
 use crate::table::count_alike;

@@ -1,7 +1,6 @@
 // The chart as text. Each call puts the text of one definition.
 ghost use mathlib.Core.Path.{_≡_};
-ghost use mathlib.Core.List.{List};
-ghost use Prim.Native.Nat.{_/_, _<_, _*_, _+_, _≤_};
+ghost use Prim.Native.Nat.{_/_, _<_, _*_, _+_};
 ghost use lib.ListN.{replicate};
 ghost use Rattle.chart.specs.Chart as meaning;
 ghost use Rattle.text.specs.Pages.{page, put, texts};

@@ -1,13 +1,13 @@
 -- The ways in which arguments are read, over plain variables: which test led there.
 -- Assumes nothing.
-use mathlib.Core.Bool.{Bool, true, false, cond, _&&_}
-use mathlib.Core.List.{List, [], _∷_}
+use mathlib.Core.Bool.{Bool, true, false}
+use mathlib.Core.List.{List}
 use mathlib.Core.Option.{Option, none, some}
-use mathlib.Core.Path.{_≡_, refl, sym, ap, _∙_, subst}
-use Prim.Native.Nat.{ℕ, suc, _+_, _-_, _*_, _^_, _≤_, _<_}
+use mathlib.Core.Path.{_≡_, sym, ap, _∙_, subst}
+use Prim.Native.Nat.{ℕ, _+_, _-_, _*_, _^_, _≤_, _<_}
 use native.Mathlib.Numerals.{add-one}
 use native.Mathlib.Omega.{arith}
-use lib.Dec.{eqb, leb, ltb}
+use lib.Dec.{eqb}
 use lib.ListN.{length, getD, set, drop, drop-of-length-le}
 use lib.Seq.{drop-cons}
 use borrow.Author.Tests.{le-leb, lt-leb, lt-ltb, le-ltb, eq-eqb, ne-eqb}
@@ -16,7 +16,7 @@ use Rattle.text.specs.Pages.{ascii}
 use Rattle.command.specs.declared.arguments.Number.{Number}
 use Rattle.command.specs.declared.arguments.Number.the-variants.{Is, Not}
 use Rattle.command.specs.declared.arguments.Plan.{Plan}
-use Rattle.command.specs.Arguments.{numberTold, plan, withFault, withWait, withNumber, withSeed, withSvg, withFile, withWord, stepped, faultOf, sameText, dashed, kindOf, digitMore, onward, readFrom, numberIn, emptyPlan, Taken, Asked}
+use Rattle.command.specs.Arguments.{numberTold, plan, withFault, withWait, withNumber, withSeed, withSvg, withFile, withWord, stepped, sameText, dashed, kindOf, digitMore, onward, readFrom, numberIn, emptyPlan, Taken, Asked}
 
 -- ---- texts
 

@@ -1,6 +1,6 @@
 -- The arguments of `ocean`: --seed and a number, --svg and a file, and files in their order. Follows docs/RULES.md, "Programs".
 -- Assumes nothing.
-use mathlib.Core.Bool.{Bool, true, false, cond, not, _&&_}
+use mathlib.Core.Bool.{Bool, true, false, cond, _&&_}
 use mathlib.Core.List.{List, [], _∷_}
 use mathlib.Core.Option.{Option, none, some}
 use mathlib.Core.Path.{_≡_}

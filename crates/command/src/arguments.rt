@@ -1,7 +1,6 @@
 // The arguments, one after the other: options, and files in their order. A fault is a number, with a sentence for each.
 ghost use mathlib.Core.Path.{_≡_};
-ghost use mathlib.Core.Option.{Option, none, some};
-ghost use Prim.Native.Nat.{_+_, _*_, _-_, _<_, _^_};
+ghost use Prim.Native.Nat.{_+_, _*_, _-_, _<_};
 ghost use Rattle.command.specs.Arguments as meaning;
 ghost use Rattle.command.specs.Arguments.{sameText, kindOf, numberTold, digitMore, numberIn, emptyPlan, withFault, withWait, withSeed, withSvg, withFile, withWord, stepped, faultOf};
 

@@ -1,6 +1,6 @@
 -- A sheet that is refused as 6, 7, 8 or 9 has a place of that kind, and it is the first. Follows docs/RULES.md, "Refusals" and "Programs".
 -- Assumes nothing.
-use mathlib.Core.Bool.{Bool, true, false, not, cond, _&&_}
+use mathlib.Core.Bool.{Bool, true, false, cond, _&&_}
 use mathlib.Core.List.{List, _∷_}
 use mathlib.Core.Path.{_≡_, refl, sym, _∙_}
 use Prim.Native.Nat.{ℕ, zero, suc, _+_, _*_, _/_, _%_, _≤_, _<_}

@@ -15,7 +15,6 @@ use Rattle.records.specs.Records.{payloadOf}
 use Rattle.layout.specs.Tables.{offsetsFrom, joined, tableOf}
 use Rattle.layout.specs.Reading.{fromLists, fromForbids, countIn, listsFit, listsIn, sheetIn}
 use Rattle.layout.specs.Lending.{Lent, lent, filled, Roomy}
-use Rattle.records.specs.Laying.{over}
 use Rattle.layout.specs.Sheet.{Sheet}
 use Rattle.records.proofs.RecordLaws.{Bytes, bytes-drop, bytes-payload, bytes-rest}
 use Rattle.records.proofs.LayingLaws.{sets-over}

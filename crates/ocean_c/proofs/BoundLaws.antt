@@ -1,6 +1,6 @@
 -- The value that a call tells is small enough for its bits. Follows docs/RULES.md, "Refusals". Assumes nothing.
 use mathlib.Core.List.{List}
-use mathlib.Core.Option.{none, some, Option·none-ne-some}
+use mathlib.Core.Option.{some, Option·none-ne-some}
 use mathlib.Core.Path.{_≡_, refl, sym, subst}
 use Prim.Native.Nat.{ℕ, zero, suc, _%_, _≤_, _<_}
 use native.Mathlib.Omega.{arith}

@@ -1,6 +1,6 @@
 -- What is kept beside the domains at each removal: a running value and a note for each cell. Follows docs/RULES.md, "Propagation" and "Entropy".
 -- Assumes nothing.
-use mathlib.Core.Bool.{Bool, true, false, cond, _&&_}
+use mathlib.Core.Bool.{Bool, cond, _&&_}
 use mathlib.Core.List.{List, _++_}
 use Prim.Native.Nat.{ℕ, zero, suc, _+_, _-_, _*_}
 use lib.Bits.{bitAnd}

@@ -1,13 +1,13 @@
 -- What the lent slices of a propagation stand for, and what they must be. Assumes nothing.
 use mathlib.Core.Path.{_≡_}
-use mathlib.Core.Bool.{Bool, true, false}
+use mathlib.Core.Bool.{true}
 use mathlib.Core.List.{List, [], _∷_}
-use Prim.Native.Nat.{ℕ, zero, suc, _+_, _-_, _*_, _/_, _%_, _≤_, _<_}
+use Prim.Native.Nat.{ℕ, zero, suc, _+_, _-_, _*_, _/_, _%_, _≤_}
 use lib.Ieee.{Float}
 use lib.ListN.{length, getD}
 use Rattle.adjacency.specs.Tables.{Table}
 use Rattle.adjacency.specs.Accepted.{Accepted}
-use Rattle.adjacency.specs.Weights.{Weighed, weighted, mask}
+use Rattle.adjacency.specs.Weights.{Weighed, weighted}
 use Rattle.grid.specs.Grid.{Grid, cells, Sized}
 use Rattle.logarithms.specs.Blocks.{blocks}
 use Rattle.consistency.specs.Worklist.{Removal, removal, State}

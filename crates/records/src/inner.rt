@@ -2,7 +2,7 @@
 ghost use mathlib.Core.Path.{_≡_};
 ghost use mathlib.Core.List.{[], _∷_};
 ghost use Prim.Native.Nat.{ℕ, _+_, _*_, _≤_, _<_};
-ghost use lib.ListN.{length, getD, drop};
+ghost use lib.ListN.{length, getD};
 ghost use lib.Seq.{sets};
 ghost use Rattle.records.specs.Numbers.{u16, u32, u64, u16s, u64s, u16At, u32At, numbersIn};
 ghost use Rattle.records.specs.Records.{headOf, Framed, begins, payloadOf, restOf};

@@ -17,7 +17,7 @@ use borrow.Author.Tests.{eqb-false, eq-eqb, ne-eqb, lt-ltb, le-ltb}
 use Rattle.words.specs.Words.{bit, has, without, howMany, least}
 use Rattle.adjacency.specs.Weights.{Weighed, wholeWeight, weightSum, mask}
 use Rattle.adjacency.specs.Fours.{sixteens, Fours}
-use Rattle.consistency.specs.Domains.{possible, removed}
+use Rattle.consistency.specs.Domains.{possible}
 use Rattle.consistency.specs.Worklist.{Removal, removal, State, state, remove, forbidAt, forbid, forbids, propagated}
 use Rattle.consistency.specs.Start.{failing, others}
 use Rattle.consistency.specs.Safe.{Safe}

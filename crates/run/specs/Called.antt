@@ -1,10 +1,10 @@
 -- A run as it is called: its refusals, its answer, and what every lent slice holds after it. Follows docs/RULES.md, "Run" and "Refusals".
 -- Assumes nothing.
-use mathlib.Core.Bool.{Bool, true, false, not, cond, _||_}
+use mathlib.Core.Bool.{Bool, not, cond, _||_}
 use mathlib.Core.List.{List, [], _∷_, _++_}
 use mathlib.Core.Path.{_≡_}
 use Prim.Native.Nat.{ℕ, zero, suc, _+_, _*_, _/_, _%_, _≤_}
-use lib.Dec.{leb, ltb, eqb}
+use lib.Dec.{ltb, eqb}
 use lib.Ieee.{Float, binary32, ofBits}
 use lib.ListN.{length, replicate}
 use Rattle.refusals.specs.declared.Refusal.the-variants.{BadSize, BadWrap, BadCount, BadWeights, BadLength, BadList, Disagree, BadCell, BadPattern}

@@ -15,7 +15,7 @@ use Rattle.run.specs.Called.{forbidTests, forbidsOf, recordsIn}
 use Rattle.sheet.specs.declared.Measures.{Measures}
 use Rattle.sheet.specs.declared.SizesAnswer.{SizesAnswer}
 use Rattle.sheet.specs.declared.Written.{Written}
-use Rattle.layout.specs.Sheet.{Sheet, sheet, bytesOf}
+use Rattle.layout.specs.Sheet.{Sheet, bytesOf}
 use Rattle.layout.specs.Tables.{tableOf, joined, sheetFor}
 use Rattle.layout.specs.Lending.{Lent, filled}
 use Rattle.layout.specs.Reading.{wellFormed, sheetIn}

@@ -1,6 +1,6 @@
 -- A word as a set of patterns, over any width: pattern p is in the word where bit p is set. Follows docs/RULES.md, "Domains".
 -- Assumes nothing.
-use mathlib.Core.Bool.{Bool, true, false, cond}
+use mathlib.Core.Bool.{Bool, cond}
 use Prim.Native.Nat.{ℕ, zero, suc, _+_, _-_, _*_, _/_, _%_, _^_}
 use lib.Bits.{bitOr}
 use lib.Dec.{leb, eqb}

@@ -1,8 +1,8 @@
 // A sheet's bytes, record by record; each function answers the place past what it wrote. Follows docs/RULES.md, "Sheet".
 ghost use mathlib.Core.List.{[], _∷_};
 ghost use mathlib.Core.Path.{_≡_};
-ghost use Prim.Native.Nat.{ℕ, _+_, _*_, _≤_, _<_};
-ghost use lib.ListN.{length, getD};
+ghost use Prim.Native.Nat.{_+_, _*_, _≤_, _<_};
+ghost use lib.ListN.{length};
 ghost use Rattle.records.specs.Numbers.{u16s};
 ghost use Rattle.records.specs.Records.{recordOf};
 ghost use Rattle.records.specs.Laying.{pen, laid};

@@ -1,7 +1,6 @@
 -- `chart::picture::part_of` meets its contract: an entry of the table.
 -- Assumes nothing.
 use borrow.Author.Needs.{needs}
-use mathlib.Core.Path.{_∙_}
 use borrow.Author.Tests.{lt-ltb, le-ltb}
 use Rattle.chart.specs.Picture.{colours, part}
 use Rattle.chart.proofs.picture.part_of.Statement.{statement}

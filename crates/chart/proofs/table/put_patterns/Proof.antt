@@ -1,8 +1,8 @@
 -- `chart::table::put_patterns` meets its contract. The invariant: what is left, put on the page now, is the whole, put on the page at entry.
 -- Assumes nothing.
 use native.Mathlib.Omega.{arith}
-use mathlib.Core.Path.{_≡_, refl, sym, ap, _∙_}
-use Prim.Native.Nat.{ℕ, _-_, _≤_}
+use mathlib.Core.Path.{_≡_, refl, _∙_}
+use Prim.Native.Nat.{_-_, _≤_}
 use lib.ListN.{length}
 use Rattle.text.specs.Pages.{page, put, texts}
 use Rattle.text.proofs.PageLaws.{texts-start, texts-turn, texts-end}

@@ -1,7 +1,7 @@
 -- `chart::table::put_rows` meets its contract. The invariant: the rows that are left, put on the page now, are all of them, put on the page at entry.
 -- Assumes nothing.
 use native.Mathlib.Omega.{arith}
-use mathlib.Core.Path.{_≡_, refl, sym, ap, _∙_}
+use mathlib.Core.Path.{_≡_, refl, ap, _∙_}
 use Prim.Native.Nat.{ℕ, _-_, _≤_}
 use lib.ListN.{length}
 use Rattle.text.specs.Pages.{page, put, texts}

@@ -1,7 +1,6 @@
 -- `command::arguments::digit_more` meets its contract: by what the byte is.
 -- Assumes nothing.
 use borrow.Author.Needs.{needs}
-use mathlib.Core.Path.{_∙_}
 use Rattle.command.proofs.ArgumentLaws.{digit-below, digit-above, digit-taken, digit-over}
 use Rattle.command.specs.Arguments.{numberTold}
 use Rattle.command.proofs.arguments.digit_more.Statement.{statement}
