@@ -4,8 +4,8 @@
 Run from the repository's root. What the streams are, crates/recorded/src/main.rt and crates/replay/src/main.rt say. Every answer is as
 recorded, but for what is left of starting domains where propagation is not refused: the greatest consistent subset, computed here from its
 definition; for what a sheet of refusals.txt says, which is taken from its bytes here; for calls with a slice of a wrong length, which are 5;
-for runs at the size that replay takes, in which nothing propagates, so that the noise and the words say all; for sheets longer than any that is
-accepted, which are made to be refused; and for what only replay refuses."""
+for runs at the size that replay takes, in which nothing propagates, so that the noise and the words say all; for bytes longer than any sheet of 64
+patterns, which are refused by whether they are a sheet, and that is judged here; and for what only replay refuses."""
 from struct import pack, unpack
 
 RUN, REFUSAL, PROPAGATE, LOOKUP, WRITE, READ = range(6)
@@ -219,6 +219,44 @@ def read_only(case):
     return replayed(sheet, [1], []), u16s([0]) + record(5, u16s([0, 0]) + pack("<Q", 1))
 
 
+def payloads_of(sheet):
+    """The payloads of the records that bytes are, one of each kind in turn; none where they are not."""
+    payloads = []
+    for kind in range(1, 5):
+        size = int.from_bytes(sheet[:4], "little")
+        if size < 2 or len(sheet) < 4 + size or int.from_bytes(sheet[4:6], "little") != kind:
+            return []
+        payloads.append(sheet[6:4 + size])
+        sheet = sheet[4 + size:]
+    return [] if sheet else payloads
+
+
+def well_formed(sheet):
+    """Whether bytes are a sheet, by docs/RULES.md."""
+    if not (payloads := payloads_of(sheet)):
+        return False
+    weights, lists, grid, forbids = payloads
+    many, at = 0, 0
+    while at < len(lists):
+        many, at = many + 1, at + 1 + lists[at]
+    count = int.from_bytes(weights[:2], "little")
+    kinds = [int.from_bytes(forbids[k:k + 2], "little") for k in range(4, len(forbids), 6)]
+    return (len(weights) >= 2 and len(weights) == 2 + 2 * count and many == 4 * count and at == len(lists) and len(grid) == 6
+            and len(forbids) % 6 == 0 and len(forbids) <= 6 * 4096 and all(kind <= 1 for kind in kinds))
+
+
+def long_refusal(sheet):
+    """The refusal of more bytes than a sheet of up to 64 patterns has."""
+    assert len(sheet) > HELD
+    return u16s([3 if well_formed(sheet) else 10])
+
+
+def ragged(count):
+    """A sheet of so many patterns, with lists of every length."""
+    lists = b"".join(bytes([37 * n % 256]) + bytes(37 * n % 256) for n in range(4 * count))
+    return record(1, u16s([count] + [1] * count)) + record(2, lists) + record(3, u16s([1, 1, 0])) + record(4, b"")
+
+
 def longest(count):
     """A sheet of so many patterns that is as long as one can be: 255 ids in each list, and 4,096 forbids."""
     return record(1, u16s([count] + [1] * count)) + record(2, bytes([255] + [0] * 255) * 4 * count) + record(3, u16s([1, 1, 0])) + record(4, bytes(6 * 4096))
@@ -248,14 +286,18 @@ def chosen(case, left=0):
 def replay():
     runs = [case for name in ("runs", "large", "rules_only", "sheets") for case in blocks(name)]
     cases = [(replayed(sheet_bytes(c), numbers(c, "noise"), numbers(c, "words")), done(c)) for c in runs]
-    cases += [read_only(c) for c in blocks("refusals") if c["call"] == "read"]
+    alone = [c for c in blocks("refusals") if c["call"] == "read"]
+    assert all(well_formed(sheet_bytes(c)) == (c["refused"] != "10") for c in alone)
+    cases += [read_only(c) for c in alone]
     # words past those that a run can use are read past; so are noise words and a sheet that are more than this program has room for
     whole = next(c for c in runs if c.get("end", "2")[0] != "2" and numbers(c, "words"))
     sheet, noise, words = sheet_bytes(whole), numbers(whole, "noise"), numbers(whole, "words")
     cases += [(replayed(sheet, noise, words + [7] * 5000), done(whole)), (replayed(sheet, noise * 5000, words), u16s([5]))]
     assert len(longest(64)) == HELD
-    cases += [(replayed(longest(64), noise, words), u16s([6])), (replayed(longest(65), noise, words), u16s([3]))]
-    cases += [(replayed(bytes(HELD + 1), noise, words), u16s([10])), (replayed(sheet, noise, words), done(whole))]
+    cases += [(replayed(longest(64), noise, words), u16s([6]))]
+    # of these all bytes are judged: two sheets of over 64 patterns, one that says so in bytes that do not fit it, and one that says nothing
+    long = [longest(65), ragged(190), record(1, u16s([65] + [0] * 65)) + bytes(HELD - 137), bytes(HELD + 1)]
+    cases += [(replayed(b, noise, words), long_refusal(b)) for b in long] + [(replayed(sheet, noise, words), done(whole))]
     # at the size that is taken, 4,096 cells times patterns, and just past it, which is told before the noise is looked at
     cases += [chosen(free(4, 32, 32)), chosen(free(4, 32, 32), left=1), chosen(free(64, 8, 8)), (replayed(sheet_bytes(free(41, 10, 10)), [], []), u16s([TOO_LARGE]))]
     # the stream ends in a case: in its last word, of which three bytes are there

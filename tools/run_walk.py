@@ -28,7 +28,7 @@ SAID = {
     'inside': '(r .cell < length (ys .0)) × (r .pattern < count)',
     'required': '(standing, inside .0, inside .1)',
     'concluded': 'Concluded e r (held ys)',
-    'stage': 'stageOf count (t .2) (held (t .1)) ≡ layAll e fs (begun e fs m₀)',
+    'stage': 'stageOf count (t .2) (held (t .1)) ≡ layAll e fs (begunStage e fs m₀)',
     'whole': 'called e fs words′ m₀',
     'words': 'words′',
 }

@@ -156,7 +156,7 @@ use denote.Triple.Walked.{says, Stays, stay-none-slice, stay-none, stay-slice, w
 use denote.Exit.{yes}''')
 w('use Rattle.%s.specs.declared.%s.{%s}' % (CRATE, STRUCT, STRUCT), 'use Rattle.%s.specs.declared.%s.{%s}' % (CRATE, ANSWER, ANSWER), USES)
 w('use %s.Walk.{Spot, spot, Shared, Mutable, refS, valS, refM, valM, ownsS, toksS, chain, Lists, Names, Longs, Rooms, toksM, ownsM, Hold, Lend, Away, lends, came-back, envAt, alloc-all, filled, free-filled, var, then}' % P)
-w('use %s.WalkLaws.{nonzero, is-zero, %s, %s, First, refusal, begun, Going, at-first, at-next, at-record, at-last, at-stop, run-is}' % (P, ABSENT, RECORD_AT))
+w('use %s.WalkLaws.{nonzero, is-zero, %s, %s, First, refusal, begunStage, Going, at-first, at-next, at-record, at-last, at-stop, run-is}' % (P, ABSENT, RECORD_AT))
 w('use %s.%s as T' % (P, STRUCT), 'use %s.%s.Laws as T′' % (P, STRUCT), 'use %s.%s as Ans' % (P, ANSWER), 'use %s.%s.Laws as Ans′' % (P, ANSWER))
 for _, f in KNOWN:
     w('use %s.%s as %s' % (P, f, dash(f)), 'use %s.%s.Symbol as %s-def' % (P, f, dash(f)), 'use %s.%s.Symbol.{name as #%s}' % (P, f, dash(f)), 'use %s.%s.Met as %s-thm' % (P, f, dash(f)))

@@ -16,7 +16,7 @@ use Rattle.text.specs.Pages.{ascii}
 use Rattle.command.specs.declared.arguments.Number.{Number}
 use Rattle.command.specs.declared.arguments.Number.the-variants.{Is, Not}
 use Rattle.command.specs.declared.arguments.Plan.{Plan}
-use Rattle.command.specs.Arguments.{numberTold, plan, withFault, withWait, withNumber, withSeed, withSvg, withFile, withWord, stepped, faultOf, sameText, dashed, kindOf, digitMore, onward, readFrom, numberIn, begun, Taken, Asked}
+use Rattle.command.specs.Arguments.{numberTold, plan, withFault, withWait, withNumber, withSeed, withSvg, withFile, withWord, stepped, faultOf, sameText, dashed, kindOf, digitMore, onward, readFrom, numberIn, emptyPlan, Taken, Asked}
 
 -- ---- texts
 
@@ -169,7 +169,7 @@ module _ (p : Plan) (index : ℕ) where
 
 -- ---- all of them
 
-pub asked-none : (from : ℕ) (p : Plan) → p ≡ begun → Asked from (from - from) p
+pub asked-none : (from : ℕ) (p : Plan) → p ≡ emptyPlan → Asked from (from - from) p
 unfolding Asked
 asked-none from p e =
     let nothing : 0 ≡ from - from = omega arith in

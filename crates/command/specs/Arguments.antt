@@ -58,8 +58,8 @@ plan seed seeded svg files count waits fault =
     record { seed = seed; seeded = seeded; svg = svg; files = files; count = count; waits = waits; fault = fault }
 
 -- before the first argument
-unfoldable pub begun : Plan
-begun = plan 0 false 0 (0 ∷ 0 ∷ 0 ∷ 0 ∷ []) 0 0 0
+unfoldable pub emptyPlan : Plan
+emptyPlan = plan 0 false 0 (0 ∷ 0 ∷ 0 ∷ 0 ∷ []) 0 0 0
 
 -- a fault: 1 no seed, 2 no picture's file, 3 another option, 4 too many files, 5 a sheet without noise and words, 6 a seed beside them
 unfoldable pub withFault : Plan → ℕ → Plan
@@ -110,5 +110,5 @@ Taken p index q = (text : List ℕ) × (q ≡ stepped p index text)
 
 -- whether a plan comes of so many arguments, the first of which has this number: each of them once, in their order
 unfoldable pub Asked : ℕ → ℕ → Plan → Type 0
-Asked from zero p = p ≡ begun
+Asked from zero p = p ≡ emptyPlan
 Asked from (suc n) p = (q : Plan) × Asked from n q × Taken q (from + n) p

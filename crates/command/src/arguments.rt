@@ -3,7 +3,7 @@ ghost use mathlib.Core.Path.{_≡_};
 ghost use mathlib.Core.Option.{Option, none, some};
 ghost use Prim.Native.Nat.{_+_, _*_, _-_, _<_, _^_};
 ghost use Rattle.command.specs.Arguments as meaning;
-ghost use Rattle.command.specs.Arguments.{sameText, kindOf, numberTold, digitMore, numberIn, begun, withFault, withWait, withSeed, withSvg, withFile, withWord, stepped, faultOf};
+ghost use Rattle.command.specs.Arguments.{sameText, kindOf, numberTold, digitMore, numberIn, emptyPlan, withFault, withWait, withSeed, withSvg, withFile, withWord, stepped, faultOf};
 
 // A number that was read, or none.
 pub enum Number {
@@ -108,7 +108,7 @@ pub fn number_in(text: &[u8]) -> Number
 
 // Before the first argument.
 pub fn begin() -> Plan
-    ensures { λ r. ⌜ r ≡ begun ⌝ }
+    ensures { λ r. ⌜ r ≡ emptyPlan ⌝ }
 {
     Plan {
         seed: 0,

@@ -8,9 +8,9 @@ use Rattle.grid.specs.Grid.{Grid, cells}
 use Rattle.consistency.specs.Domains.{Fit, Sub}
 use Rattle.consistency.specs.Consistent.{Consistent, Greatest}
 use Rattle.consistency.specs.Worklist.{Removal}
-use Rattle.consistency.specs.Parts.{lessened}
+use Rattle.consistency.specs.Parts.{removedAll}
 use Rattle.consistency.proofs.DomainLaws.{sub-antisym}
-use Rattle.consistency.proofs.LessenedLaws.{possible-lessened}
+use Rattle.consistency.proofs.RemovedAllLaws.{possible-removedAll}
 
 module _ (t : Table) (g : Grid) where
   -- a smaller start leaves a subset
@@ -26,15 +26,15 @@ module _ (t : Table) (g : Grid) where
   greatest-self D F C = record { fit = F; consistent = C; below = λ c p z. z; above = λ H i K h. h }
 
   -- removals after a propagation lead to where they lead before it
-  pub greatest-lessened : (us : List Removal) (D G H : List ℕ) → Greatest t g D G → Greatest t g (lessened us G) H → Greatest t g (lessened us D) H
-  greatest-lessened us D G H a b =
+  pub greatest-removedAll : (us : List Removal) (D G H : List ℕ) → Greatest t g D G → Greatest t g (removedAll us G) H → Greatest t g (removedAll us D) H
+  greatest-removedAll us D G H a b =
       record {
         fit = b .fit;
         consistent = b .consistent;
-        below = λ c p z. let (k, l) = possible-lessened us G c p .0 (b .below c p z) in possible-lessened us D c p .1 (k, a .below c p l);
+        below = λ c p z. let (k, l) = possible-removedAll us G c p .0 (b .below c p z) in possible-removedAll us D c p .1 (k, a .below c p l);
         above = λ E F C h.
             b .above E F C
             (λ c p z.
-            possible-lessened us G c p .1
-            (possible-lessened us D c p .0 (h c p z) .0, a .above E F C (λ m r y. possible-lessened us D m r .0 (h m r y) .1) c p z));
+            possible-removedAll us G c p .1
+            (possible-removedAll us D c p .0 (h c p z) .0, a .above E F C (λ m r y. possible-removedAll us D m r .0 (h m r y) .1) c p z));
       }

@@ -16,7 +16,7 @@ use Rattle.adjacency.specs.Tables.{Table, listOf}
 use Rattle.adjacency.specs.Accepted.{AllBelow, Accepted}
 use Rattle.grid.specs.Grid.{Grid, cells, neighbour}
 use Rattle.consistency.specs.Domains.{possible, removed}
-use Rattle.consistency.specs.Worklist.{Removal, removal, State, state, place, cleared, remove, decrementAt, decrement, decrements, toward, forbidAt, forbid, forbids, spreadIn, spread, popped, propagate}
+use Rattle.consistency.specs.Worklist.{Removal, removal, State, state, place, fourCleared, remove, decrementAt, decrement, decrements, toward, forbidAt, forbid, forbids, spreadIn, spread, popped, propagate}
 use Rattle.consistency.specs.Safe.{total, Inside, Safe}
 use Rattle.loops.proofs.SumLaws.{sum-ext, sum-at}
 use Rattle.words.proofs.BitLaws.{bit-lt}
@@ -52,16 +52,16 @@ module _ (l : List ℕ) (k j : ℕ) where
   l₃ = set l₂ (k + 2) 0
 
   -- the four counts are zero
-  cleared-in : (d : ℕ) → d < 4 → j ≡ k + d → getD (cleared l k) j 0 ≡ 0
-  cleared-in zero h e = keeps-zero l₃ (k + 3) j (keeps-zero l₂ (k + 2) j (keeps-zero l₁ (k + 1) j (zeroed l k j (omega arith))))
-  cleared-in (suc zero) h e = keeps-zero l₃ (k + 3) j (keeps-zero l₂ (k + 2) j (zeroed l₁ (k + 1) j e))
-  cleared-in (suc (suc zero)) h e = keeps-zero l₃ (k + 3) j (zeroed l₂ (k + 2) j e)
-  cleared-in (suc (suc (suc zero))) h e = zeroed l₃ (k + 3) j e
-  cleared-in (suc (suc (suc (suc d)))) h e = absurd (omega arith)
+  fourCleared-in : (d : ℕ) → d < 4 → j ≡ k + d → getD (fourCleared l k) j 0 ≡ 0
+  fourCleared-in zero h e = keeps-zero l₃ (k + 3) j (keeps-zero l₂ (k + 2) j (keeps-zero l₁ (k + 1) j (zeroed l k j (omega arith))))
+  fourCleared-in (suc zero) h e = keeps-zero l₃ (k + 3) j (keeps-zero l₂ (k + 2) j (zeroed l₁ (k + 1) j e))
+  fourCleared-in (suc (suc zero)) h e = keeps-zero l₃ (k + 3) j (zeroed l₂ (k + 2) j e)
+  fourCleared-in (suc (suc (suc zero))) h e = zeroed l₃ (k + 3) j e
+  fourCleared-in (suc (suc (suc (suc d)))) h e = absurd (omega arith)
 
   -- and all others stay
-  pub cleared-out : ((d : ℕ) → d < 4 → j ≡ k + d → ⊥) → getD (cleared l k) j 0 ≡ getD l j 0
-  cleared-out f =
+  pub fourCleared-out : ((d : ℕ) → d < 4 → j ≡ k + d → ⊥) → getD (fourCleared l k) j 0 ≡ getD l j 0
+  fourCleared-out f =
       getD-set-other l₃ (k + 3) j 0 0 (f 3 (lit< tt)) ∙ getD-set-other l₂ (k + 2) j 0 0 (f 2 (lit< tt)) ∙ getD-set-other l₁ (k + 1) j 0 0 (f 1 (lit< tt))
       ∙ getD-set-other l k j 0 0 (λ e. f 0 (lit< tt) (omega arith))
 
@@ -129,9 +129,9 @@ module _ (P n M : ℕ) {X : Type 0} where
           room = omega (arith, S .room, total-less P n (s .domains) (removed (s .domains) (u .cell) (u .pattern)) (u .cell) (u .pattern) hc hp l);
           dead = λ c q d hc′ hq hd z.
               elim (ℕ-discrete (c * P + q) (u .cell * P + u .pattern)) [
-                | yes e ↦ cleared-in (s .counts) (place P (u .cell) (u .pattern) 0) (place P c q d) d hd (omega arith)
+                | yes e ↦ fourCleared-in (s .counts) (place P (u .cell) (u .pattern) 0) (place P c q d) d hd (omega arith)
                 | no e ↦
-                    cleared-out (s .counts) (place P (u .cell) (u .pattern) 0) (place P c q d) (λ d′ h z′. e (omega arith))
+                    fourCleared-out (s .counts) (place P (u .cell) (u .pattern) 0) (place P c q d) (λ d′ h z′. e (omega arith))
                     ∙ S .dead c q d hc′ hq hd
                     (sym (l .rest c q (λ e₁ e₂. e (ap (λ (x : ℕ). x * P + q) e₁ ∙ ap (λ (x : ℕ). u .cell * P + x) e₂))) ∙ z)
               ];

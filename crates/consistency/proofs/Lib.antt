@@ -6,7 +6,7 @@ pub mod Steps
 pub mod ConsistentLaws
 pub mod Settled
 pub mod RemovalLaws
-pub mod LessenedLaws
+pub mod RemovedAllLaws
 pub mod GreatestLaws
 pub mod StartLaws
 pub mod SettledLaws

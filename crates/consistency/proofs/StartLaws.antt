@@ -14,13 +14,13 @@ use Rattle.grid.specs.Grid.{Grid, cells}
 use Rattle.consistency.specs.Domains.{possible, filled}
 use Rattle.consistency.specs.Worklist.{Removal, State, place, forbidAt, forbid, forbids}
 use Rattle.consistency.specs.Start.{tabulated, startCounts, start, reduced}
-use Rattle.consistency.specs.Parts.{lessened}
+use Rattle.consistency.specs.Parts.{removedAll}
 use Rattle.consistency.specs.Safe.{total, Inside}
 use Rattle.loops.proofs.SumLaws.{sum-most}
 use Rattle.words.proofs.BitLaws.{bit-lt}
 use Rattle.directions.proofs.DirectionLaws.{opposite-below}
 use Rattle.consistency.proofs.DomainLaws.{possible-filled, fit-filled, emptied-filled}
-use Rattle.consistency.proofs.LessenedLaws.{forbids-lessened}
+use Rattle.consistency.proofs.RemovedAllLaws.{forbids-removedAll}
 use Rattle.consistency.proofs.ConsistentLaws.{supports-filled, full-consistent}
 use Rattle.consistency.proofs.GreatestLaws.{greatest-self}
 use Rattle.consistency.proofs.Owed.{nothing-due, owed}
@@ -118,8 +118,8 @@ module _ (t : Table) (g : Grid) (A : Accepted t) {X : Type 0} where
 
     -- the propagation of any removals from full domains settles what they leave
     pub reduced-settled : (x : X) (us : List Removal) → Inside (t .count) (cells g) us
-        → Settled t g (lessened us (filled (t .count) (cells g))) (reduced t g keep x us)
+        → Settled t g (removedAll us (filled (t .count) (cells g))) (reduced t g keep x us)
     unfolding reduced start
     reduced-settled x us i =
-        subst (λ (D : List ℕ). Settled t g D (reduced t g keep x us)) (forbids-lessened (t .count) keep us (start t g x))
+        subst (λ (D : List ℕ). Settled t g D (reduced t g keep x us)) (forbids-removedAll (t .count) keep us (start t g x))
         (settled t g A keep (forbids (t .count) keep us (start t g x)) (forbids-ready us (start t g x) i (start-ready x)))

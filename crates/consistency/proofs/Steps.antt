@@ -14,12 +14,12 @@ use Rattle.adjacency.specs.Tables.{Table, listOf}
 use Rattle.adjacency.specs.Accepted.{AllBelow, Accepted}
 use Rattle.grid.specs.Grid.{Grid, cells, neighbour}
 use Rattle.consistency.specs.Domains.{possible, removed}
-use Rattle.consistency.specs.Worklist.{Removal, removal, State, place, cleared, remove, decrementAt, decrement, decrements, toward, spreadIn, spread}
+use Rattle.consistency.specs.Worklist.{Removal, removal, State, place, fourCleared, remove, decrementAt, decrement, decrements, toward, spreadIn, spread}
 use Rattle.consistency.specs.Safe.{Safe}
 use Rattle.loops.proofs.SumLaws.{same, same-no}
 use Rattle.grid.proofs.GridLaws.{neighbour-inside}
 use Rattle.consistency.proofs.Counting.{supports, Less, Counted, skip, spend, kill, doomed, place-ne}
-use Rattle.consistency.proofs.Keep.{removed-less, cleared-out, counted-possible, safe-remove, safe-decrementAt}
+use Rattle.consistency.proofs.Keep.{removed-less, fourCleared-out, counted-possible, safe-remove, safe-decrementAt}
 use Rattle.consistency.proofs.Owed.{netOf, Due, dueIn, dueTo, dueToward, dueOf, owed}
 
 -- a state is safe and its counts are exact, where `rest` is still to be taken besides what is pending
@@ -49,9 +49,9 @@ module _ (t : Table) (g : Grid) {X : Type 0} (keep : Removal → List ℕ → X 
         safe = safe-remove (t .count) (cells g) M keep u s hc hp a (E .safe);
         counted =
             kill (netOf t g) (possible (s .domains)) (λ k. getD (s .counts) k 0) _ (λ n q d. rest′ n q d + owed t g (u ∷ s .pending) n q d) (E .counted)
-            (possible (removed (s .domains) (u .cell) (u .pattern))) (λ k. getD (cleared (s .counts) (place (t .count) (u .cell) (u .pattern) 0)) k 0)
+            (possible (removed (s .domains) (u .cell) (u .pattern))) (λ k. getD (fourCleared (s .counts) (place (t .count) (u .cell) (u .pattern) 0)) k 0)
             (u .cell) (u .pattern) hp (removed-less (s .domains) (u .cell) (u .pattern) a)
-            (λ j z. cleared-out (s .counts) (place (t .count) (u .cell) (u .pattern) 0) j (λ d hd e. z d hd (omega arith)))
+            (λ j z. fourCleared-out (s .counts) (place (t .count) (u .cell) (u .pattern) 0) j (λ d hd e. z d hd (omega arith)))
             (λ n q d hq hd z. omega (arith, r n q d hq hd z));
       }
 

@@ -13,16 +13,16 @@ use Rattle.grid.specs.Grid.{Grid, cells}
 use Rattle.consistency.specs.Domains.{possible, removed, filled, Fit, emptied}
 use Rattle.consistency.specs.Worklist.{Removal, removal, State, state, remove, forbidAt, forbid, forbids}
 use Rattle.consistency.specs.Start.{failing, missing, start}
-use Rattle.consistency.specs.Parts.{lessened}
-use Rattle.consistency.specs.Withdrawn.{Work, workOf, withdraw, withdrawn, InTurn, begun}
+use Rattle.consistency.specs.Parts.{removedAll}
+use Rattle.consistency.specs.Withdrawn.{Work, workOf, withdraw, withdrawn, InTurn, startWork}
 use Rattle.consistency.specs.Forget.{nothing}
 use Rattle.consistency.specs.Safe.{Safe}
 use Rattle.consistency.proofs.DomainLaws.{possible-filled, possible-removed-other}
 use Rattle.consistency.proofs.RemovalLaws.{missing-inside, spared-failing}
-use Rattle.consistency.proofs.LessenedLaws.{possible-lessened, forbids-lessened}
+use Rattle.consistency.proofs.RemovedAllLaws.{possible-removedAll, forbids-removedAll}
 use Rattle.consistency.proofs.Settled.{Ready}
 use Rattle.consistency.proofs.StartLaws.{start-ready, forbids-ready}
-use Rattle.consistency.proofs.Given.{lessened-missing}
+use Rattle.consistency.proofs.Given.{removedAll-missing}
 
 -- ---- withdrawn
 
@@ -38,8 +38,8 @@ length-withdrawn P (u ∷ us) m = omega (arith, length-withdrawn P us (withdraw 
 
 -- ---- each in its turn
 
-turn-append : (us vs : List Removal) (D : List ℕ) → InTurn us D → InTurn vs (lessened us D) → InTurn (us ++ vs) D
-unfolding lessened
+turn-append : (us vs : List Removal) (D : List ℕ) → InTurn us D → InTurn vs (removedAll us D) → InTurn (us ++ vs) D
+unfolding removedAll
 turn-append [] vs D i j = j
 turn-append (u ∷ us) vs D i j = (i .0, turn-append us vs (removed D (u .cell) (u .pattern)) (i .1) j)
 
@@ -62,9 +62,9 @@ unfolding missing
 turn-missing P c [] E h = tt
 turn-missing P c (w ∷ D) E h =
     turn-append (failing (has w) P 0 c) (missing P (suc c) D) E (turn-failing (has w) P 0 c E (λ p _ k. h c p (omega arith) (omega arith) (omega arith)))
-    (turn-missing P (suc c) D (lessened (failing (has w) P 0 c) E)
+    (turn-missing P (suc c) D (removedAll (failing (has w) P 0 c) E)
     (λ m p l k a.
-    possible-lessened (failing (has w) P 0 c) E m p .1
+    possible-removedAll (failing (has w) P 0 c) E m p .1
     (spared-failing (has w) P 0 c m p .1 (λ e _ _. absurd (omega arith)), h m p (omega arith) (omega arith) a)))
 
 -- ---- removals that are asked for
@@ -89,17 +89,17 @@ module _ (t : Table) (g : Grid) (A : Accepted t) (D : List ℕ) (F : Fit (t .cou
   given-ready = forbids-ready t g A nothing (missing (t .count) 0 D) (start t g tt) (missing-inside (t .count) (cells g) 0 D (omega (arith, F .sized))) (start-ready t g A tt)
 
   -- where forbidding what the domains D lack leads, from full ones
-  pub given-start : forbids (t .count) nothing (missing (t .count) 0 D) (start t g tt) ≡ state (begun t (cells g) D .counts) D (begun t (cells g) D .pending) (emptied D) tt
-  unfolding start begun
+  pub given-start : forbids (t .count) nothing (missing (t .count) 0 D) (start t g tt) ≡ state (startWork t (cells g) D .counts) D (startWork t (cells g) D .pending) (emptied D) tt
+  unfolding start startWork
   given-start = λ i. state (laid i .counts) (same i) (laid i .pending) (told i) tt
     where
       s : State (Unit {0})
       s = forbids (t .count) nothing (missing (t .count) 0 D) (start t g tt)
 
       same : s .domains ≡ D
-      same = forbids-lessened (t .count) nothing (missing (t .count) 0 D) (start t g tt) ∙ lessened-missing F
+      same = forbids-removedAll (t .count) nothing (missing (t .count) 0 D) (start t g tt) ∙ removedAll-missing F
 
-      laid : workOf s ≡ begun t (cells g) D
+      laid : workOf s ≡ startWork t (cells g) D
       laid =
           forbids-withdrawn (t .count) nothing (missing (t .count) 0 D) (start t g tt)
           (turn-missing (t .count) 0 D (filled (t .count) (cells g)) (λ m p _ k a. possible-filled (t .count) (cells g) m p (omega (arith, F .sized)) a))
@@ -107,5 +107,5 @@ module _ (t : Table) (g : Grid) (A : Accepted t) (D : List ℕ) (F : Fit (t .cou
       told : s .empty ≡ emptied D
       told = given-ready .safe .told ∙ ap emptied same
 
-  pub given-safe : Safe (t .count) (cells g) (cells g * t .count) (state (begun t (cells g) D .counts) D (begun t (cells g) D .pending) (emptied D) (tt {0}))
+  pub given-safe : Safe (t .count) (cells g) (cells g * t .count) (state (startWork t (cells g) D .counts) D (startWork t (cells g) D .pending) (emptied D) (tt {0}))
   given-safe = subst (λ (s : State (Unit {0})). Safe (t .count) (cells g) (cells g * t .count) s) given-start (given-ready .safe)

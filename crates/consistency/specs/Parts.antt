@@ -12,10 +12,10 @@ use Rattle.consistency.specs.Domains.{removed}
 use Rattle.consistency.specs.Worklist.{Removal, State, forbids, propagated}
 
 -- the domains without each of the removals
-unfoldable pub lessened : List Removal → List ℕ → List ℕ
+unfoldable pub removedAll : List Removal → List ℕ → List ℕ
 unfolding without
-lessened [] D = D
-lessened (u ∷ us) D = lessened us (removed D (u .cell) (u .pattern))
+removedAll [] D = D
+removedAll (u ∷ us) D = removedAll us (removed D (u .cell) (u .pattern))
 
 -- pattern p at cell c is none of the removals
 abbrev pub Spared : List Removal → ℕ → ℕ → Type 0

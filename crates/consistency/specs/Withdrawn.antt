@@ -5,7 +5,7 @@ use mathlib.Core.Path.{_≡_}
 use Prim.Native.Nat.{ℕ}
 use Rattle.consistency.specs.Domains.{possible, removed}
 use Rattle.adjacency.specs.Tables.{Table}
-use Rattle.consistency.specs.Worklist.{Removal, State, place, cleared}
+use Rattle.consistency.specs.Worklist.{Removal, State, place, fourCleared}
 use Rattle.consistency.specs.Start.{startCounts, missing}
 
 -- the support counts, and the removals that are pending with the last one first
@@ -21,7 +21,7 @@ workOf s = work (s .counts) (s .pending)
 
 -- of P patterns, one goes that the domains lack already: its four supports are cleared, and the removal is pending
 unfoldable pub withdraw : ℕ → Removal → Work → Work
-withdraw P u m = work (cleared (m .counts) (place P (u .cell) (u .pattern) 0)) (u ∷ m .pending)
+withdraw P u m = work (fourCleared (m .counts) (place P (u .cell) (u .pattern) 0)) (u ∷ m .pending)
 
 -- each in turn
 unfoldable pub withdrawn : ℕ → List Removal → Work → Work
@@ -35,6 +35,6 @@ InTurn [] D = Unit {0}
 InTurn (u ∷ us) D = (possible D (u .cell) (u .pattern) ≡ 1) × InTurn us (removed D (u .cell) (u .pattern))
 
 -- the counts and what is pending, where a propagation of the domains D at n cells starts
-unfoldable pub begun : Table → ℕ → List ℕ → Work
+unfoldable pub startWork : Table → ℕ → List ℕ → Work
 unfolding withdrawn missing startCounts
-begun t n D = withdrawn (t .count) (missing (t .count) 0 D) (work (startCounts t n) [])
+startWork t n D = withdrawn (t .count) (missing (t .count) 0 D) (work (startCounts t n) [])

@@ -26,8 +26,8 @@ abbrev pub place : ℕ → ℕ → ℕ → ℕ → ℕ
 place P n q d = (n * P + q) * 4 + d
 
 -- the four counts from k on are cleared
-abbrev pub cleared : List ℕ → ℕ → List ℕ
-cleared counts k = set (set (set (set counts k 0) (k + 1) 0) (k + 2) 0) (k + 3) 0
+abbrev pub fourCleared : List ℕ → ℕ → List ℕ
+fourCleared counts k = set (set (set (set counts k 0) (k + 1) 0) (k + 2) 0) (k + 3) 0
 
 -- the support counts, what is possible, the removals that are pending with the last one first, whether a cell was emptied,
 -- and what else is kept at each removal
@@ -53,7 +53,7 @@ module _ (P : ℕ) {X : Type 0} (keep : Removal → List ℕ → X → X) where
   unfolding without
   remove u s =
       record {
-        counts = cleared (s .counts) (place P (u .cell) (u .pattern) 0);
+        counts = fourCleared (s .counts) (place P (u .cell) (u .pattern) 0);
         domains = removed (s .domains) (u .cell) (u .pattern);
         pending = u ∷ s .pending;
         empty = s .empty || eqb (without (getD (s .domains) (u .cell) 0) (u .pattern)) 0;

@@ -16,16 +16,16 @@ use Rattle.consistency.specs.Domains.{possible, Fit, settledAs, emptied}
 use Rattle.consistency.specs.Consistent.{Greatest}
 use Rattle.consistency.specs.Worklist.{Removal, State, state, forbidAt, forbid, forbids, propagated}
 use Rattle.consistency.specs.Start.{others, reduced}
-use Rattle.consistency.specs.Parts.{lessened, Spared, Alike}
+use Rattle.consistency.specs.Parts.{removedAll, Spared, Alike}
 use Rattle.consistency.specs.Safe.{Inside}
-use Rattle.propagation.specs.Beside.{Beside, kept, unmarked, lessened as valued}
+use Rattle.propagation.specs.Beside.{Beside, kept, unmarked, lessened}
 use Rattle.run.specs.declared.Forbid.{Forbid}
 use Rattle.run.specs.Run.{Given, begun, reducedBy, asked, laid, laidAll, ended, turn, runOf}
 use Rattle.run.specs.Course.{Lawful, fullLess, wanted, SameForbids, Reached, forbade, Final}
 use Rattle.words.proofs.BitLaws.{bit-not, bit-none, word-ext}
 use Rattle.consistency.proofs.DomainLaws.{pattern-below, at-emptied, emptied-sub, fit-filled}
 use Rattle.consistency.proofs.RemovalLaws.{spared-append, others-inside, spared-others}
-use Rattle.consistency.proofs.LessenedLaws.{fit-lessened, possible-lessened, lessened-alike}
+use Rattle.consistency.proofs.RemovedAllLaws.{fit-removedAll, possible-removedAll, removedAll-alike}
 use Rattle.consistency.proofs.Keep.{propagate-none}
 use Rattle.consistency.proofs.Settled.{Ready, Settled}
 use Rattle.consistency.proofs.SettledLaws.{settled-contradiction, settled-written, settled-one}
@@ -67,7 +67,7 @@ module _ (i : Given) (A : Accepted (i .table)) (s : State Beside) (f : Forbid) (
       propagated (i .table) (i .grid) (kept (i .weights) (i .noise) (cells (i .grid)))
       (state (r .counts) (r .domains) (r .pending) (r .empty) (unmarked (cells (i .grid)) (r .beside)))
 
-  none-removed : f .keep ≡ 0 → forbids (i .table .count) (valued (i .weights)) (asked (i .table .count) f) s ≡ s
+  none-removed : f .keep ≡ 0 → forbids (i .table .count) (lessened (i .weights)) (asked (i .table .count) f) s ≡ s
   unfolding asked forbids forbid forbidAt
   none-removed k = rw (eq-eqb (f .keep) 0 k, gone)
 
@@ -84,21 +84,21 @@ module _ (i : Given) (A : Accepted (i .table)) (s : State Beside) (f : Forbid) (
       us : List Removal
       us = others (i .table .count) (f .cell) (f .pattern)
 
-      S : Settled (i .table) (i .grid) (lessened us (s .domains)) (reducedBy i us s)
+      S : Settled (i .table) (i .grid) (removedAll us (s .domains)) (reducedBy i us s)
       S = reducedBy-settled i A us s (others-inside (i .table .count) (cells (i .grid)) (f .cell) (f .pattern) h) R
 
-      F : Fit (i .table .count) (cells (i .grid)) (lessened us (s .domains))
-      F = fit-lessened us (R .safe .fit)
+      F : Fit (i .table .count) (cells (i .grid)) (removedAll us (s .domains))
+      F = fit-removedAll us (R .safe .fit)
 
-      none : (p : ℕ) → possible (lessened us (s .domains)) (f .cell) p ≡ 1 → ⊥
+      none : (p : ℕ) → possible (removedAll us (s .domains)) (f .cell) p ≡ 1 → ⊥
       none p e =
-          let (spared, was) = possible-lessened us (s .domains) (f .cell) p .0 e in
+          let (spared, was) = possible-removedAll us (s .domains) (f .cell) p .0 e in
           let same = spared-others (i .table .count) (f .cell) (f .pattern) (f .cell) p (pattern-below F (f .cell) p e) .0 spared refl in
           omega (arith, gone, was, ap (λ (q : ℕ). possible (s .domains) (f .cell) q) same)
 
-      empty : emptied (lessened us (s .domains)) ≡ true
+      empty : emptied (removedAll us (s .domains)) ≡ true
       empty =
-          at-emptied (lessened us (s .domains)) (f .cell) (omega (arith, F .sized))
+          at-emptied (removedAll us (s .domains)) (f .cell) (omega (arith, F .sized))
           (word-ext (i .table .count) (F .words (f .cell)) (pow-pos (i .table .count)) (λ p _. bit-not _ p (none p) ∙ sym (bit-none p)))
 
 -- ---- the states that forbids lead to
@@ -110,14 +110,14 @@ pub forbids-together : (i : Given) (fs : List Forbid) → Lawful i fs → {X : T
     × (laidAll i fs (begun i) .empty ≡ reduced (i .table) (i .grid) keep x us .empty)
 forbids-together i fs L keep x us h a =
     settled-one (i .table) (i .grid) _ _ _ _ (forbade-settled i fs L) (reduced-settled (i .table) (i .grid) (L .accepted) keep x us h)
-    (lessened-alike (wanted (i .table .count) fs) us (fit-filled (i .table .count) (cells (i .grid))) a)
+    (removedAll-alike (wanted (i .table .count) fs) us (fit-filled (i .table .count) (cells (i .grid))) a)
 
 -- the order of the records and their repeats do not matter
 pub forbids-order : (i : Given) (fs gs : List Forbid) → Lawful i fs → Lawful i gs → SameForbids fs gs
     → (settledAs (laidAll i fs (begun i) .domains) ≡ settledAs (laidAll i gs (begun i) .domains)) × (laidAll i fs (begun i) .empty ≡ laidAll i gs (begun i) .empty)
 forbids-order i fs gs L M same =
     settled-one (i .table) (i .grid) _ _ _ _ (forbade-settled i fs L) (forbade-settled i gs M)
-    (lessened-alike (wanted (i .table .count) fs) (wanted (i .table .count) gs) (fit-filled (i .table .count) (cells (i .grid))) (wanted-alike (i .table .count) fs gs same))
+    (removedAll-alike (wanted (i .table .count) fs) (wanted (i .table .count) gs) (fit-filled (i .table .count) (cells (i .grid))) (wanted-alike (i .table .count) fs gs same))
 
 -- a contradiction among the forbids ends the run before any word is used
 pub forbids-contradict : (i : Given) (fs : List Forbid) → Lawful i fs → (words : List ℕ) → laidAll i fs (begun i) .empty ≡ true

@@ -26,8 +26,7 @@ use Rattle.propagation.specs.Beside.{Beside, weightedIn, lessenedBy, lessened, 
 use Rattle.choice.specs.Observer.{noteAt, countsAt}
 use Rattle.run.specs.declared.Forbid.{Forbid}
 use Rattle.run.specs.Run.{Given, begun, reducedBy, asked, laid, laidAll, notesOf, Turn, turn}
-use Rattle.run.specs.Course.{Placed, Lawful, Reached, forbade, chose}
-use Rattle.laws.specs.Visited.{Visited, among, after, stillCounts}
+use Rattle.run.specs.Course.{Placed, Lawful, Reached, forbade, chose, Visited, among, after, stillCounts}
 use Rattle.loops.proofs.SumLaws.{sum-less}
 use Rattle.words.proofs.BitLaws.{bit-and}
 use Rattle.adjacency.proofs.WeightLaws.{weight-inside, weighted-true, weight-mask}
@@ -39,7 +38,7 @@ use Rattle.propagation.proofs.BesideLaws.{proposes-weight, weighted-64}
 use Rattle.choice.proofs.ObserverLaws.{valid-counts}
 use Rattle.run.proofs.TurnLaws.{turn-on}
 use Rattle.run.proofs.StateLaws.{asked-inside, reducedBy-settled, forbade-settled, reached-stands, reached-ready}
-use Rattle.run.proofs.StageLaws.{laidAll-append}
+use Rattle.run.proofs.StageLaws.{placed-parts, laidAll-append}
 use Rattle.consistency.proofs.KeptLaws.{Endures, endures-forbids, endures-propagated}
 use Rattle.laws.proofs.StaleLaws.{weighted-sub, removed-le, Above, reached-above, stale}
 
@@ -205,10 +204,6 @@ module _ (i : Given) (fs : List Forbid) (words : List ℕ) where
   visited-above : {n : ℕ} {s : State Beside} → Visited i fs words n s → Above (i .weights) (cells (i .grid)) (s .domains) (s .beside)
   visited-above (among gs hs e) = reached-above i {fs = gs} {words = words} forbade
   visited-above (after r) = reached-above i r
-
-placed-parts : (P n : ℕ) (fs gs : List Forbid) → Placed P n (fs ++ gs) → Placed P n fs × Placed P n gs
-placed-parts P n [] gs h = (tt, h)
-placed-parts P n (f ∷ fs) gs h = let (a, b) = placed-parts P n fs gs (h .2) in ((h .0, h .1, a), b)
 
 -- the first forbids and those that are left
 module _ (i : Given) (fs : List Forbid) (L : Lawful i fs) (gs hs : List Forbid) (e : gs ++ hs ≡ fs) where

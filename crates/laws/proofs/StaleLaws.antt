@@ -22,7 +22,7 @@ use Rattle.logarithms.specs.declared.inner.Note.{Note}
 use Rattle.consistency.specs.Domains.{possible, removed, filled}
 use Rattle.consistency.specs.Worklist.{Removal, removal, State}
 use Rattle.consistency.specs.Start.{start}
-use Rattle.consistency.specs.Parts.{lessened as without}
+use Rattle.consistency.specs.Parts.{removedAll}
 use Rattle.propagation.specs.Beside.{Beside, weightedIn, lessenedBy, lessened, proposes, proposed, written, noted, proposing, kept, unmarked}
 use Rattle.choice.specs.Observer.{valid}
 use Rattle.run.specs.declared.Forbid.{Forbid}
@@ -31,7 +31,7 @@ use Rattle.run.specs.Course.{Reached}
 use Rattle.words.proofs.BitLaws.{bit-and, bit-lt}
 use Rattle.words.proofs.CountLaws.{many-sub}
 use Rattle.consistency.proofs.DomainLaws.{sub-le}
-use Rattle.consistency.proofs.LessenedLaws.{sub-lessened}
+use Rattle.consistency.proofs.RemovedAllLaws.{sub-removedAll}
 use Rattle.propagation.proofs.BesideLaws.{weighted-64}
 use Rattle.choice.proofs.ObserverLaws.{valid-counts}
 use Rattle.run.proofs.KeptCourse.{Lasts, holds-reached}
@@ -53,8 +53,8 @@ weighted-most ws w = many-sub (length ws) (bitAnd w (mask ws)) (mask ws) (λ p. 
 
 -- a removal leaves a part
 pub removed-le : (D : List ℕ) (c p m q : ℕ) → possible (removed D c p) m q ≤ possible D m q
-unfolding without
-removed-le D c p = sub-le (removed D c p) D (sub-lessened (removal c p ∷ []) D)
+unfolding removedAll
+removed-le D c p = sub-le (removed D c p) D (sub-removedAll (removal c p ∷ []) D)
 
 -- ---- no note's count is below the weighted count of its cell
 

@@ -18,7 +18,7 @@ use Rattle.adjacency.specs.Checks.{badCount, offsetsMisfit, badList, disagree}
 use Rattle.grid.specs.Grid.{Grid, cells, badSize, badWrap}
 use Rattle.consistency.specs.Domains.{Fit}
 use Rattle.propagation.specs.Lent.{Ground}
-use Rattle.propagation.specs.Given.{Given}
+use Rattle.propagation.specs.Given.{Starting}
 use Rattle.propagation.specs.Propagate.{badLengths, badDomains, propagateTests, propagateRefusal}
 use Rattle.loops.proofs.TestLaws.{T-true, true-T, neither, every-at}
 use Rattle.words.proofs.BitLaws.{beyond-false}
@@ -59,7 +59,7 @@ domains-fit P D e =
 
 -- where nothing is refused, the table and the grid are accepted, and the domains and work memory fit
 pub not-refused : (t : Table) (g : Grid) (D counts pending : List ℕ) → propagateRefusal t g D (length counts) (length pending) ≡ 0
-    → Ground t g (length D) × Given (t .count) D counts pending
+    → Ground t g (length D) × Starting (t .count) D counts pending
 unfolding propagateRefusal
 not-refused t g D counts pending e =
     let (count, (size, (wrap, (lengths, (list, (agree, (domains, _))))))) = first-passed (propagateTests t g D (length counts) (length pending)) e in

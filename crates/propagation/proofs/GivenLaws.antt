@@ -13,11 +13,11 @@ use lib.Seq.{drop-cons}
 use borrow.Author.Tests.{eq-eqb, ne-eqb}
 use Rattle.words.specs.Words.{bit, has, without, lacked, least}
 use Rattle.consistency.specs.Domains.{emptied}
-use Rattle.consistency.specs.Worklist.{Removal, removal, cleared}
+use Rattle.consistency.specs.Worklist.{Removal, removal, fourCleared}
 use Rattle.consistency.specs.Start.{failing, missing}
 use Rattle.consistency.specs.Withdrawn.{Work, work, withdraw, withdrawn}
 use Rattle.propagation.specs.Lent.{pendingOf}
-use Rattle.propagation.specs.Given.{Given, Spacious}
+use Rattle.propagation.specs.Given.{Starting, Spacious}
 use Rattle.words.proofs.BitLaws.{lacked-lt}
 use Rattle.words.proofs.ChangeLaws.{without-less}
 use Rattle.words.proofs.LeastLaws.{least-found}
@@ -35,7 +35,7 @@ pub spacious-long : {P cell : ℕ} {counts counts′ : List ℕ} → Spacious P 
 spacious-long S e = record { some = S .some; patterns = S .patterns; near = S .near; roomy = omega (arith, S .roomy) }
 
 pub withdraw-is : (P cell p top : ℕ) (counts pending : List ℕ) {counts′ : List ℕ} {slot : ℕ} → p < P → top < length pending
-    → counts′ ≡ cleared counts ((cell * P + p) * 4) → slot ≡ cell * P + p
+    → counts′ ≡ fourCleared counts ((cell * P + p) * 4) → slot ≡ cell * P + p
     → work counts′ (pendingOf P (set pending top slot) (top + 1)) ≡ withdraw P (removal cell p) (work counts (pendingOf P pending top))
 unfolding withdraw
 withdraw-is P cell p top counts pending hp ht c s = rw (c, s, pending-push P pending top cell p hp ht, add-zero)
@@ -119,7 +119,7 @@ module _ {P : ℕ} {D counts₀ pending₀ : List ℕ} where
 
   module _ {counts pending : List ℕ} {top cell : ℕ} (S : Passing P D counts₀ pending₀ counts pending top cell) where
     -- what the next cell needs
-    pub passing-asks : Given P D counts₀ pending₀ → cell < length D → Spacious P cell counts × (getD D cell 0 < 2 ^ P) × (top + P ≤ length pending)
+    pub passing-asks : Starting P D counts₀ pending₀ → cell < length D → Spacious P cell counts × (getD D cell 0 < 2 ^ P) × (top + P ≤ length pending)
     passing-asks G h =
         let room : suc cell * P ≤ length D * P = mul-le-mul-right P h in (
           record { some = G .some; patterns = G .patterns; near = omega (arith, G .cells); roomy = omega (arith, G .counted, S .counts-long) },

@@ -15,11 +15,11 @@ use lib.Seq.{getD-set-same, getD-set-other}
 use Rattle.words.specs.Words.{without}
 use Rattle.adjacency.specs.Weights.{weightOf}
 use Rattle.consistency.specs.Domains.{possible, removed}
-use Rattle.consistency.specs.Worklist.{Removal, removal, State, state, place, cleared, remove}
+use Rattle.consistency.specs.Worklist.{Removal, removal, State, state, place, fourCleared, remove}
 use Rattle.consistency.specs.Safe.{total, Inside, Safe}
 use Rattle.propagation.specs.declared.inner.Pile.{Pile}
 use Rattle.propagation.specs.Beside.{Beside, beside, lessenedBy, lessened}
-use Rattle.propagation.specs.Lent.{pendingOf, stateOf, topOf, lowered, Lent, Room}
+use Rattle.propagation.specs.Lent.{pendingOf, stateOf, topOf, belowTop, Lent, Alongside}
 use Rattle.consistency.proofs.Keep.{removed-less, total-less}
 
 -- ---- the pile
@@ -80,8 +80,8 @@ module _ {P n : ℕ} {D C Q : List ℕ} {pile : Pile} (L : Lent P n D C Q pile) 
     pub top-pattern : topOf P Q pile .pattern < P
     top-pattern = top-inside .1
 
-    pub lowered-safe : {X : Type 0} (x : X) (M : ℕ) → pile .top - 1 + total P n D ≤ M → Safe P n M (stateOf P D C Q (lowered pile) x)
-    lowered-safe x M k =
+    pub belowTop-safe : {X : Type 0} (x : X) (M : ℕ) → pile .top - 1 + total P n D ≤ M → Safe P n M (stateOf P D C Q (belowTop pile) x)
+    belowTop-safe x M k =
         record {
           sized = L .safe .sized;
           fit = L .safe .fit;
@@ -91,8 +91,8 @@ module _ {P n : ℕ} {D C Q : List ℕ} {pile : Pile} (L : Lent P n D C Q pile) 
           told = L .safe .told;
         }
 
-    pub lent-lowered : Lent P n D C Q (lowered pile)
-    lent-lowered = lent-after (lowered-safe (tt {0}) (n * P) (omega (arith, L .safe .room, pending-length P Q (pile .top)))) refl
+    pub lent-belowTop : Lent P n D C Q (belowTop pile)
+    lent-belowTop = lent-after (belowTop-safe (tt {0}) (n * P) (omega (arith, L .safe .room, pending-length P Q (pile .top)))) refl
 
   -- ---- where a cell's pattern stands
 
@@ -107,9 +107,9 @@ module _ {P n : ℕ} {D C Q : List ℕ} {pile : Pile} (L : Lent P n D C Q pile) 
     pub pile-low : possible D c p ≡ 1 → pile .top < length Q
     pile-low h = omega (arith, L .safe .room, L .tall, pending-length P Q (pile .top), total-less P n D (removed D c p) c p hc hp (removed-less D c p h))
 
-pub room-after : {P n : ℕ} {ws noise marks marks′ : List ℕ} {floats floats′ : List Float} → Room P n ws noise floats marks → length floats′ ≡ length floats
-    → length marks′ ≡ length marks → Room P n ws noise floats′ marks′
-room-after R e k =
+pub alongside-after : {P n : ℕ} {ws noise marks marks′ : List ℕ} {floats floats′ : List Float} → Alongside P n ws noise floats marks → length floats′ ≡ length floats
+    → length marks′ ≡ length marks → Alongside P n ws noise floats′ marks′
+alongside-after R e k =
     record {
       weighed = R .weighed;
       marked = rw k (R .marked);
@@ -121,7 +121,7 @@ room-after R e k =
 module _ (ws D C Q : List ℕ) (pile : Pile) (floats : List Float) (c : ℕ) where
   -- what the code leaves of the slices is the state without the pattern
   pub remove-is : {P p word slot : ℕ} {C′ : List ℕ} {floats′ : List Float} → p < P → pile .top < length Q
-      → word ≡ without (getD D c 0) p → C′ ≡ cleared C ((c * P + p) * 4) → slot ≡ c * P + p
+      → word ≡ without (getD D c 0) p → C′ ≡ fourCleared C ((c * P + p) * 4) → slot ≡ c * P + p
       → ((marks : List ℕ) → beside floats′ marks ≡ lessenedBy (weightOf ws p) c (beside floats marks)) → (marks : List ℕ)
       → stateOf P (set D c word) C′ (set Q (pile .top) slot) (record { top = pile .top + 1; empty = pile .empty || eqb word 0 }) (beside floats′ marks)
       ≡ remove P (lessened ws) (removal c p) (stateOf P D C Q pile (beside floats marks))
@@ -130,7 +130,7 @@ module _ (ws D C Q : List ℕ) (pile : Pile) (floats : List Float) (c : ℕ) whe
       rw (w, e, k)
       (λ i.
       record {
-        counts = ap (cleared C) zero-more i;
+        counts = ap (fourCleared C) zero-more i;
         domains = removed D c p;
         pending = pending-push P Q (pile .top) c p hp low i;
         empty = pile .empty || eqb (without (getD D c 0) p) 0;
@@ -163,7 +163,7 @@ stateIn P m pile = stateOf P (m .domains) (m .counts) (m .pending) pile (beside 
 -- the slices are as they must be, and as long as they were
 pub record Going (P n : ℕ) (ws noise : List ℕ) (m₀ m : Memory) (pile : Pile) : Type 0 where
   pub lent : Lent P n (m .domains) (m .counts) (m .pending) pile
-  pub room : Room P n ws noise (m .floats) (m .marks)
+  pub alongside : Alongside P n ws noise (m .floats) (m .marks)
   pub domains : length (m .domains) ≡ length (m₀ .domains)
   pub counts : length (m .counts) ≡ length (m₀ .counts)
   pub pending : length (m .pending) ≡ length (m₀ .pending)
@@ -177,9 +177,9 @@ Same m m′ R =
     × ((length (m′ .floats) ≡ length (m .floats)) × ((length (m′ .marks) ≡ length (m .marks)) × R))))
 
 module _ {P n : ℕ} {ws noise : List ℕ} where
-  pub going-start : {m : Memory} {pile : Pile} → Lent P n (m .domains) (m .counts) (m .pending) pile → Room P n ws noise (m .floats) (m .marks)
+  pub going-start : {m : Memory} {pile : Pile} → Lent P n (m .domains) (m .counts) (m .pending) pile → Alongside P n ws noise (m .floats) (m .marks)
       → Going P n ws noise m m pile
-  going-start L R = record { lent = L; room = R; domains = refl; counts = refl; pending = refl; floats = refl; marks = refl }
+  going-start L R = record { lent = L; alongside = R; domains = refl; counts = refl; pending = refl; floats = refl; marks = refl }
 
   -- a step that is safe, and whose slices are as long as before
   pub going-on : {m₀ m m′ : Memory} {pile r : Pile} {s : State Beside} {R : Type 0} → Going P n ws noise m₀ m pile → stateIn P m′ r ≡ s → Safe P n (n * P) s
@@ -188,7 +188,7 @@ module _ {P n : ℕ} {ws noise : List ℕ} where
       let (domains, (counts, (pending, (floats, (marks, _))))) = k in
       record {
         lent = lent-after (G .lent) (subst (λ (z : State Beside). Safe P n (n * P) z) (sym e) S) pending;
-        room = room-after (G .room) floats marks;
+        alongside = alongside-after (G .alongside) floats marks;
         domains = domains ∙ G .domains;
         counts = counts ∙ G .counts;
         pending = pending ∙ G .pending;

@@ -21,11 +21,11 @@ use Rattle.consistency.specs.Domains.{possible, Fit}
 use Rattle.consistency.specs.Worklist.{Removal, removal, State, state, remove, decrements, spreadIn, spread, propagate, propagated}
 use Rattle.consistency.specs.Safe.{total, Safe}
 use Rattle.propagation.specs.declared.inner.Pile.{Pile}
-use Rattle.propagation.specs.Lent.{pendingOf, stateOf, topOf, lowered, Lent, Ground}
+use Rattle.propagation.specs.Lent.{pendingOf, stateOf, topOf, belowTop, Lent, Ground}
 use Rattle.loops.proofs.TestLaws.{both}
 use Rattle.grid.proofs.GridLaws.{neighbour-inside}
 use Rattle.consistency.proofs.Keep.{safe-remove, safe-spreadIn, safe-spread, propagate-step, propagate-none, propagate-empty}
-use Rattle.propagation.proofs.LentLaws.{pending-length, pending-top, lent-safe, top-cell, top-pattern, lowered-safe}
+use Rattle.propagation.proofs.LentLaws.{pending-length, pending-top, lent-safe, top-cell, top-pattern, belowTop-safe}
 
 -- ---- a pattern goes in propagation
 
@@ -91,12 +91,12 @@ unfinished-some pile p = ltb-true _ _ (both _ (not (pile .empty)) p .0)
 
 module _ {t : Table} {g : Grid} {n : ℕ} (G : Ground t g n) {X : Type 0} (keep : Removal → List ℕ → X → X) {D C Q : List ℕ} {pile : Pile}
     (L : Lent (t .count) n D C Q pile) (x : X) where
-  module _ (p : unfinished pile ≡ true) {s : State X} (e : s ≡ spread t g keep (topOf (t .count) Q pile) (stateOf (t .count) D C Q (lowered pile) x)) where
+  module _ (p : unfinished pile ≡ true) {s : State X} (e : s ≡ spread t g keep (topOf (t .count) Q pile) (stateOf (t .count) D C Q (belowTop pile) x)) where
     some : 0 < pile .top
     some = unfinished-some pile p
 
     turn-room : (M : ℕ) → pile .top - 1 + total (t .count) n D ≤ M → Safe (t .count) n M s
-    turn-room M h = subst (λ (z : State X). Safe (t .count) n M z) (sym e) (ground-spread G keep (top-cell L some) (top-pattern L some) (lowered-safe L some x M h))
+    turn-room M h = subst (λ (z : State X). Safe (t .count) n M z) (sym e) (ground-spread G keep (top-cell L some) (top-pattern L some) (belowTop-safe L some x M h))
 
     pub turn-safe : Safe (t .count) n (n * t .count) s
     turn-safe = turn-room (n * t .count) (omega (arith, L .safe .room, pending-length (t .count) Q (pile .top)))

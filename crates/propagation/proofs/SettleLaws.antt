@@ -19,12 +19,12 @@ use Rattle.logarithms.specs.Lookups.{Lookups}
 use Rattle.consistency.specs.Domains.{Fit, emptied}
 use Rattle.consistency.specs.Worklist.{Removal, State, state, propagated}
 use Rattle.consistency.specs.Start.{startCounts, missing, reduced}
-use Rattle.consistency.specs.Withdrawn.{work, withdrawn, begun}
+use Rattle.consistency.specs.Withdrawn.{work, withdrawn, startWork}
 use Rattle.consistency.specs.Forget.{nothing, forget}
 use Rattle.consistency.specs.Safe.{Safe}
 use Rattle.propagation.specs.declared.inner.Pile.{Pile}
-use Rattle.propagation.specs.Lent.{pendingOf, stateOf, Lent, Room, Ground}
-use Rattle.propagation.specs.Given.{Given, givenState}
+use Rattle.propagation.specs.Lent.{pendingOf, stateOf, Lent, Alongside, Ground}
+use Rattle.propagation.specs.Given.{Starting, givenState}
 use Rattle.propagation.specs.Propagate.{reducedFrom, outcome, outcomeAt}
 use Rattle.loops.proofs.SumLaws.{sum-zero}
 use Rattle.adjacency.proofs.WeightLaws.{weightSum-le}
@@ -37,8 +37,8 @@ use Rattle.consistency.proofs.WithdrawnLaws.{given-start, given-safe}
 
 module _ (t : Table) (D pending : List ℕ) (pile : Pile) {started counts : List ℕ} (s : started ≡ startCounts t (length D))
     (w : work counts (pendingOf (t .count) pending (pile .top)) ≡ withdrawn (t .count) (missing (t .count) 0 D) (work started [])) (e : pile .empty ≡ emptied D) where
-  laid : work counts (pendingOf (t .count) pending (pile .top)) ≡ begun t (length D) D
-  unfolding begun
+  laid : work counts (pendingOf (t .count) pending (pile .top)) ≡ startWork t (length D) D
+  unfolding startWork
   laid = w ∙ ap (λ (l : List ℕ). withdrawn (t .count) (missing (t .count) 0 D) (work l [])) s
 
   pub begin-is : stateOf (t .count) D counts pending pile (tt {0}) ≡ givenState t D
@@ -54,12 +54,12 @@ module _ (t : Table) (g : Grid) (D : List ℕ) (G : Ground t g (length D)) (F : 
   safe : Safe (t .count) (length D) (length D * t .count) (givenState t D)
   unfolding givenState
   safe =
-      subst (λ (n : ℕ). Safe (t .count) n (n * t .count) (state (begun t n D .counts) D (begun t n D .pending) (emptied D) (tt {0}))) (sym (G .all))
+      subst (λ (n : ℕ). Safe (t .count) n (n * t .count) (state (startWork t n D .counts) D (startWork t n D .pending) (emptied D) (tt {0}))) (sym (G .all))
       (given-safe t g (G .accepted) D fit)
 
-  pub lent-begun : {counts₀ counts pending₀ pending : List ℕ} {pile : Pile} → Given (t .count) D counts₀ pending₀ → length pending ≡ length pending₀
+  pub lent-given : {counts₀ counts pending₀ pending : List ℕ} {pile : Pile} → Starting (t .count) D counts₀ pending₀ → length pending ≡ length pending₀
       → stateOf (t .count) D counts pending pile (tt {0}) ≡ givenState t D → Lent (t .count) (length D) D counts pending pile
-  lent-begun A p e =
+  lent-given A p e =
       record {
         some = A .some;
         patterns = A .patterns;
@@ -69,10 +69,10 @@ module _ (t : Table) (g : Grid) (D : List ℕ) (G : Ground t g (length D)) (F : 
       }
 
   -- the work list from there leaves what is to be left
-  pub reduced-begun : propagated t g nothing (givenState t D) ≡ reducedFrom t g D
+  pub reduced-given : propagated t g nothing (givenState t D) ≡ reducedFrom t g D
   unfolding givenState reducedFrom reduced
-  reduced-begun =
-      ap (propagated t g nothing) (sym (given-start t g (G .accepted) D fit ∙ ap (λ (n : ℕ). state (begun t n D .counts) D (begun t n D .pending) (emptied D) tt) (sym (G .all))))
+  reduced-given =
+      ap (propagated t g nothing) (sym (given-start t g (G .accepted) D fit ∙ ap (λ (n : ℕ). state (startWork t n D .counts) D (startWork t n D .pending) (emptied D) tt) (sym (G .all))))
 
 -- ---- without weights
 
@@ -98,8 +98,8 @@ module _ (P : ℕ) where
   mask-none = sum-zero (length (replicate P 0)) _ (λ p _. rw (unweighted p))
 
   -- without weights room is asked for the marks alone
-  pub room-none : (n : ℕ) (noise : List ℕ) (floats : List Float) (marks : List ℕ) → 2 * n + blocks n ≤ length marks → Room P n (replicate P 0) noise floats marks
-  room-none n noise floats marks marked =
+  pub alongside-none : (n : ℕ) (noise : List ℕ) (floats : List Float) (marks : List ℕ) → 2 * n + blocks n ≤ length marks → Alongside P n (replicate P 0) noise floats marks
+  alongside-none n noise floats marks marked =
       record {
         weighed = record { one-each = length-replicate P 0; light = omega (arith, light) };
         marked = marked;
@@ -131,7 +131,7 @@ take-zeros (suc n) (suc m) h = ap (λ (l : List ℕ). 0 ∷ l) (take-zeros n m (
 -- whatever is kept beside the domains, the work list from there leaves what is to be left
 pub reduce-is : (t : Table) (g : Grid) (D : List ℕ) → Ground t g (length D) → Fit (t .count) (length D) D → {X : Type 0} (keep : Removal → List ℕ → X → X) (s r : State X)
     → forget s ≡ givenState t D → r ≡ propagated t g keep s → forget r ≡ reducedFrom t g D
-reduce-is t g D G F keep s r a b = ap forget b ∙ forget-propagated t g keep s ∙ ap (propagated t g nothing) a ∙ reduced-begun t g D G F
+reduce-is t g D G F keep s r a b = ap forget b ∙ forget-propagated t g keep s ∙ ap (propagated t g nothing) a ∙ reduced-given t g D G F
 
 -- ---- what is written
 

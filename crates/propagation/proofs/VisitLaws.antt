@@ -18,7 +18,7 @@ use Rattle.consistency.specs.Domains.{possible}
 use Rattle.consistency.specs.Worklist.{Removal, removal, State, place, remove, decrementAt, decrement, decrements}
 use Rattle.consistency.specs.Safe.{Safe}
 use Rattle.propagation.specs.declared.inner.Pile.{Pile}
-use Rattle.propagation.specs.Supports.{Taken, taken, takenAt, Visits, visits, untilLoss}
+use Rattle.propagation.specs.Supports.{Visit, visit, visitAt, Visits, visits, untilLoss}
 use Rattle.propagation.specs.Lent.{stateOf, Lent}
 use Rattle.adjacency.proofs.ListLaws.{allBelow-at}
 use Rattle.consistency.proofs.Keep.{counted-possible, safe-decrement}
@@ -26,14 +26,14 @@ use Rattle.propagation.proofs.LentLaws.{lent-safe, lent-after, place-be
 
 -- ---- one support is taken; `b` is whether it was the last, and C′ the counts after it
 
-module _ (C : List ℕ) (k : ℕ) {C′ : List ℕ} {b : Bool} (e : taken b C′ ≡ takenAt C k) where
+module _ (C : List ℕ) (k : ℕ) {C′ : List ℕ} {b : Bool} (e : visit b C′ ≡ visitAt C k) where
   last-is : b ≡ eqb (getD C k 0) 1
-  unfolding takenAt
-  last-is = ap (λ (t : Taken). t .last) e
+  unfolding visitAt
+  last-is = ap (λ (t : Visit). t .last) e
 
   left-is : C′ ≡ cond (leb 2 (getD C k 0)) (set C k (getD C k 0 - 1)) C
-  unfolding takenAt
-  left-is = ap (λ (t : Taken). t .counts) e
+  unfolding visitAt
+  left-is = ap (λ (t : Visit). t .counts) e
 
   last-one : b ≡ true → getD C k 0 ≡ 1
   last-one t = eqb-true _ _ (sym last-is ∙ t)
@@ -45,11 +45,11 @@ module _ (C : List ℕ) (k : ℕ) {C′ : List ℕ} {b : Bool} (e : taken b C′
 -- ---- the loop up to the next loss
 
 module _ (base d : ℕ) (list : List ℕ) {R : Visits} where
-  module _ (C : List ℕ) {i q : ℕ} {C′ : List ℕ} {b : Bool} (h : i < length list) (at : q ≡ getD list i 0) (e : taken b C′ ≡ takenAt C ((base + q) * 4 + d))
+  module _ (C : List ℕ) {i q : ℕ} {C′ : List ℕ} {b : Bool} (h : i < length list) (at : q ≡ getD list i 0) (e : visit b C′ ≡ visitAt C ((base + q) * 4 + d))
       (inv : untilLoss base d (drop i list) C ≡ R) where
     one-more : (qs : List ℕ) → untilLoss base d (q ∷ qs) C ≡ cond b (visits (q ∷ qs) C′) (untilLoss base d qs C′)
     unfolding untilLoss
-    one-more qs = ap (λ (t : Taken). cond (t .last) (visits (q ∷ qs) (t .counts)) (untilLoss base d qs (t .counts))) (sym e)
+    one-more qs = ap (λ (t : Visit). cond (t .last) (visits (q ∷ qs) (t .counts)) (untilLoss base d qs (t .counts))) (sym e)
 
     loss-here : cond b (visits (drop i list) C′) (untilLoss base d (drop (i + 1) list) C′) ≡ R
     loss-here =
@@ -73,7 +73,7 @@ module _ (base d : ℕ) (list : List ℕ) {R : Visits} where
 loss-shorter : (base d : ℕ) (qs C : List ℕ) → length (untilLoss base d qs C .left) ≤ length qs
 unfolding untilLoss
 loss-shorter base d [] C = le-refl 0
-loss-shorter base d (q ∷ qs) C = let t = takenAt C ((base + q) * 4 + d) in go (t .last) (t .counts) _ (loss-shorter base d qs (t .counts))
+loss-shorter base d (q ∷ qs) C = let t = visitAt C ((base + q) * 4 + d) in go (t .last) (t .counts) _ (loss-shorter base d qs (t .counts))
   where
     go : (b : Bool) (C′ : List ℕ) (v : Visits) → length (v .left) ≤ length qs → length (cond b (visits (q ∷ qs) C′) v .left) ≤ suc (length qs)
     go true C′ v h = le-refl _
@@ -119,7 +119,7 @@ module _ (P : ℕ) (D Q : List ℕ) (pile : Pile) (c d : ℕ) {X : Type 0} (keep
   decrement-last C q one k = rw (one, decrement) k
 
   -- without, only the counts change
-  decrement-more : (C : List ℕ) (q : ℕ) {C′ : List ℕ} {b : Bool} → taken b C′ ≡ takenAt C (place P c q d) → b ≡ false
+  decrement-more : (C : List ℕ) (q : ℕ) {C′ : List ℕ} {b : Bool} → visit b C′ ≡ visitAt C (place P c q d) → b ≡ false
       → stateOf P D C′ Q pile x ≡ decrement P keep c d q (stateOf P D C Q pile x)
   unfolding decrement
   decrement-more C q e t = rw (left-is C _ e) (go (getD C (place P c q d) 0) (eqb-false _ _ (sym (last-is C _ e) ∙ t)))
@@ -133,20 +133,20 @@ module _ (P : ℕ) (D Q : List ℕ) (pile : Pile) (c d : ℕ) {X : Type 0} (keep
           rw (le-leb 2 (suc (suc m)) (omega arith), less)
 
   -- what is left to do after the visits leads to the same end, and starts with a loss
-  pub record Visited (n : ℕ) (qs C : List ℕ) (v : Visits) : Type 0 where
+  pub record Visiting (n : ℕ) (qs C : List ℕ) (v : Visits) : Type 0 where
     pub lent : Lent P n D (v .counts) Q pile
     pub losing : Losing P c d (v .left) (v .counts)
     pub same : each (decrement P keep c d) (v .left) (stateOf P D (v .counts) Q pile x) ≡ each (decrement P keep c d) qs (stateOf P D C Q pile x)
 
   module _ {n : ℕ} (hc : c < n) (hd : d < 4) where
-    visited : (qs C : List ℕ) → AllBelow P qs → Lent P n D C Q pile → Visited n qs C (untilLoss (c * P) d qs C)
+    visited : (qs C : List ℕ) → AllBelow P qs → Lent P n D C Q pile → Visiting n qs C (untilLoss (c * P) d qs C)
     unfolding untilLoss each
     visited [] C a L = record { lent = L; losing = tt; same = refl }
     visited (q ∷ qs) C a L = go _ _ refl (λ C′ L′. visited qs C′ (a .1) L′)
       where
-        go : (b : Bool) (C′ : List ℕ) → taken b C′ ≡ takenAt C (place P c q d)
-            → ((C′ : List ℕ) → Lent P n D C′ Q pile → Visited n qs C′ (untilLoss (c * P) d qs C′))
-            → Visited n (q ∷ qs) C (cond b (visits (q ∷ qs) C′) (untilLoss (c * P) d qs C′))
+        go : (b : Bool) (C′ : List ℕ) → visit b C′ ≡ visitAt C (place P c q d)
+            → ((C′ : List ℕ) → Lent P n D C′ Q pile → Visiting n qs C′ (untilLoss (c * P) d qs C′))
+            → Visiting n (q ∷ qs) C (cond b (visits (q ∷ qs) C′) (untilLoss (c * P) d qs C′))
         go true C′ e rest =
             let z = last-same C _ e refl in
             record { lent = rw z L; losing = rw z (last-one C _ e refl); same = rw z }
@@ -157,8 +157,8 @@ module _ (P : ℕ) (D Q : List ℕ) (pile : Pile) (c d : ℕ) {X : Type 0} (keep
 
     -- from entry i of a list on
     pub visited-from : (list C : List ℕ) (i : ℕ) {v : Visits} → AllBelow P list → Lent P n D C Q pile → v ≡ untilLoss (c * P) d (drop i list) C
-        → Visited n (drop i list) C v
-    visited-from list C i a L e = subst (λ (v : Visits). Visited n (drop i list) C v) (sym e) (visited (drop i list) C (allBelow-drop P list i a) L)
+        → Visiting n (drop i list) C v
+    visited-from list C i a L e = subst (λ (v : Visits). Visiting n (drop i list) C v) (sym e) (visited (drop i list) C (allBelow-drop P list i a) L)
 
 -- ---- a list
 

@@ -7,10 +7,10 @@ use lib.ListN.{length}
 use Rattle.adjacency.specs.Tables.{Table}
 use Rattle.consistency.specs.Domains.{Fit, emptied}
 use Rattle.consistency.specs.Worklist.{State, state}
-use Rattle.consistency.specs.Withdrawn.{begun}
+use Rattle.consistency.specs.Withdrawn.{startWork}
 
 -- domains of P patterns, and work memory for them
-pub record Given (P : ℕ) (domains counts pending : List ℕ) : Type 0 where
+pub record Starting (P : ℕ) (domains counts pending : List ℕ) : Type 0 where
   pub some : 1 ≤ P
   pub patterns : P ≤ 64
   pub one : 1 ≤ length domains
@@ -28,5 +28,5 @@ pub record Spacious (P cell : ℕ) (counts : List ℕ) : Type 0 where
 
 -- the state from which given domains are propagated
 unfoldable pub givenState : Table → List ℕ → State (Unit {0})
-unfolding begun emptied
-givenState t D = state (begun t (length D) D .counts) D (begun t (length D) D .pending) (emptied D) tt
+unfolding startWork emptied
+givenState t D = state (startWork t (length D) D .counts) D (startWork t (length D) D .pending) (emptied D) tt

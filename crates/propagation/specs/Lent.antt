@@ -28,8 +28,8 @@ stateOf P domains counts pending pile x =
 abbrev pub topOf : ℕ → List ℕ → Pile → Removal
 topOf P pending pile = removal (getD pending (pile .top - 1) 0 / P) (getD pending (pile .top - 1) 0 % P)
 
-abbrev pub lowered : Pile → Pile
-lowered pile = record { top = pile .top - 1; empty = pile .empty }
+abbrev pub belowTop : Pile → Pile
+belowTop pile = record { top = pile .top - 1; empty = pile .empty }
 
 -- the lent slices of a propagation of P patterns at n cells: a safe state, and a pile for every removal there can be
 pub record Lent (P n : ℕ) (domains counts pending : List ℕ) (pile : Pile) : Type 0 where
@@ -46,7 +46,7 @@ pub record Roomy (n : ℕ) (noise : List ℕ) (floats : List Float) (marks : Lis
   pub marked : 2 * n + blocks n ≤ length marks
 
 -- what the weights, the noise and what is kept beside must be; every removal touches its block, with or without weight
-pub record Room (P n : ℕ) (weights noise : List ℕ) (floats : List Float) (marks : List ℕ) : Type 0 where
+pub record Alongside (P n : ℕ) (weights noise : List ℕ) (floats : List Float) (marks : List ℕ) : Type 0 where
   pub weighed : Weighed P weights
   pub marked : 2 * n + blocks n ≤ length marks
   pub roomy : (p : ℕ) → weighted weights p ≡ true → Roomy n noise floats marks

@@ -6,16 +6,16 @@ use lib.Dec.{leb, eqb}
 use lib.ListN.{getD, set}
 
 -- what one visit to a count comes to: whether it was the last support, and the counts after it
-pub record Taken : Type 0 where
+pub record Visit : Type 0 where
   pub last : Bool
   pub counts : List ℕ
 
-abbrev pub taken : Bool → List ℕ → Taken
-taken last counts = record { last = last; counts = counts }
+abbrev pub visit : Bool → List ℕ → Visit
+visit last counts = record { last = last; counts = counts }
 
 -- one support is taken from the count at k, where it is not the last and not gone already
-unfoldable pub takenAt : List ℕ → ℕ → Taken
-takenAt counts k = taken (eqb (getD counts k 0) 1) (cond (leb 2 (getD counts k 0)) (set counts k (getD counts k 0 - 1)) counts)
+unfoldable pub visitAt : List ℕ → ℕ → Visit
+visitAt counts k = visit (eqb (getD counts k 0) 1) (cond (leb 2 (getD counts k 0)) (set counts k (getD counts k 0 - 1)) counts)
 
 -- what visits to the patterns of a list come to: what is left of the list, and the counts after them
 pub record Visits : Type 0 where
@@ -27,8 +27,8 @@ visits left counts = record { left = left; counts = counts }
 
 -- one support from direction d is taken from each pattern of a list, up to the first whose last it is; `base` is the place of the cell's pattern 0
 unfoldable pub untilLoss : ℕ → ℕ → List ℕ → List ℕ → Visits
-unfolding takenAt
+unfolding visitAt
 untilLoss base d [] counts = visits [] counts
 untilLoss base d (q ∷ qs) counts =
-    let t = takenAt counts ((base + q) * 4 + d) in
+    let t = visitAt counts ((base + q) * 4 + d) in
     cond (t .last) (visits (q ∷ qs) (t .counts)) (untilLoss base d qs (t .counts))

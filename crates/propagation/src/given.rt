@@ -13,7 +13,7 @@ ghost use Rattle.consistency.specs.Start.{failing, missing};
 ghost use Rattle.consistency.specs.Withdrawn.{work, withdrawn};
 ghost use Rattle.consistency.specs.Withdrawn as meaning;
 ghost use Rattle.propagation.specs.Lent.{pendingOf, stateOf};
-ghost use Rattle.propagation.specs.Given.{Given, Spacious, givenState};
+ghost use Rattle.propagation.specs.Given.{Starting, Spacious, givenState};
 use crate::inner::Pile;
 use crate::inner::start::start_counts;
 use words::inner::lacked_patterns;
@@ -64,7 +64,7 @@ fn lack_at(
 
 // All that the starting domains lack, cell by cell; the height of the pile.
 fn lack(count: usize, domains: &[u64], counts: &mut [u8], pending: &mut [u32]) -> usize
-    requires { ⌜ Given count (now domains) (now counts) (now pending) ⌝ }
+    requires { ⌜ Starting count (now domains) (now counts) (now pending) ⌝ }
     ensures { λ r. ⌜ work (now (counts .exit)) (pendingOf count (now (pending .exit)) r)
         ≡ withdrawn count (missing count 0 (now (domains .entry))) (work (now (counts .entry)) []) ⌝ }
 {
@@ -100,7 +100,7 @@ pub(crate) fn begin(
     counts: &mut [u8],
     pending: &mut [u32],
 ) -> Pile
-    requires { ⌜ Accepted (table count (now offsets) (now ids)) × Given count (now domains) (now counts) (now pending) ⌝ }
+    requires { ⌜ Accepted (table count (now offsets) (now ids)) × Starting count (now domains) (now counts) (now pending) ⌝ }
     ensures { λ r. ⌜ stateOf count (now (domains .entry)) (now (counts .exit)) (now (pending .exit)) r (tt {0})
         ≡ givenState (table count (now (offsets .entry)) (now (ids .entry))) (now (domains .entry)) ⌝ }
 {

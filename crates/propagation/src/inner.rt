@@ -15,7 +15,7 @@ ghost use Rattle.logarithms.specs.Blocks.{Watched};
 ghost use Rattle.logarithms.specs.Logs.{Logs};
 ghost use Rattle.logarithms.specs.Lookups.{Lookups};
 ghost use Rattle.propagation.specs.Beside.{beside, besideIn, lessened, kept, unmarked};
-ghost use Rattle.propagation.specs.Lent.{stateOf, Lent, Room, Ground};
+ghost use Rattle.propagation.specs.Lent.{stateOf, Lent, Alongside, Ground};
 
 pub mod start;
 
@@ -88,7 +88,7 @@ pub fn propagate(
 ) -> Pile
     requires { ⌜ Lent count (length (now domains)) (now domains) (now counts) (now pending) pile ⌝ }
     requires { ⌜ Ground (table count (now offsets) (now ids)) (grid width height mode) (length (now domains)) ⌝ }
-    requires { ⌜ Room count (length (now domains)) (now weights) (now noise) (now floats) (now marks) × (weighted ≡ mask (now weights)) × Lookups (now weights) (now logs) (now sums) ⌝ }
+    requires { ⌜ Alongside count (length (now domains)) (now weights) (now noise) (now floats) (now marks) × (weighted ≡ mask (now weights)) × Lookups (now weights) (now logs) (now sums) ⌝ }
     ensures { λ r. ⌜ (stateOf count (now (domains .exit)) (now (counts .exit)) (now (pending .exit)) r
         (besideIn (length (now (domains .entry))) (now (floats .exit)) (now (marks .exit)))
         ≡ worklist.propagated (table count (now (offsets .entry)) (now (ids .entry))) (grid width height mode) (kept (now (weights .entry)) (now (noise .entry)) (length (now (domains .entry))))

@@ -10,7 +10,7 @@ ghost use Rattle.logarithms.specs.Logs.{Logs};
 ghost use Rattle.logarithms.specs.Lookups.{Lookups};
 ghost use Rattle.propagation.specs.Beside as meaning;
 ghost use Rattle.propagation.specs.Beside.{beside, besideIn};
-ghost use Rattle.propagation.specs.Lent.{Room, Roomy};
+ghost use Rattle.propagation.specs.Lent.{Alongside, Roomy};
 use logarithms::inner::Note;
 
 // A removal of that weight takes w log w off the cell's running value; without weight there may be none to take it off.
@@ -96,7 +96,7 @@ pub(crate) fn propose(
     floats: &mut [f32],
     marks: &mut [u8],
 )
-    requires { ⌜ Room count cells (now weights) (now noise) (now floats) (now marks) × (weighted ≡ mask (now weights)) × Lookups (now weights) (now logs) (now sums) ⌝ }
+    requires { ⌜ Alongside count cells (now weights) (now noise) (now floats) (now marks) × (weighted ≡ mask (now weights)) × Lookups (now weights) (now logs) (now sums) ⌝ }
     requires { ⌜ (count ≤ 64) × (cell < cells) × (pattern < count) × (word < 2 ^ count) ⌝ }
     ensures { λ _. ⌜ beside (now (floats .exit)) (now (marks .exit))
         ≡ meaning.proposing (now (weights .entry)) (now (noise .entry)) cells cell pattern word (beside (now (floats .entry)) (now (marks .entry))) ⌝ }

@@ -13,7 +13,7 @@ ghost use Rattle.consistency.specs.Worklist.{removal};
 ghost use Rattle.consistency.specs.Worklist as worklist;
 ghost use Rattle.propagation.specs.Beside.{beside};
 ghost use Rattle.propagation.specs.Watching.{watching};
-ghost use Rattle.propagation.specs.Lent.{stateOf, topOf, lowered, Lent, Room, Ground};
+ghost use Rattle.propagation.specs.Lent.{stateOf, topOf, belowTop, Lent, Alongside, Ground};
 ghost use Rattle.propagation.specs.Supports.{visits, untilLoss};
 use crate::inner::Pile;
 use grid::Near;
@@ -49,7 +49,7 @@ fn remove_and_propose(
     pile: Pile,
 ) -> Pile
     requires { ⌜ Lent count cells (now domains) (now counts) (now pending) pile ⌝ }
-    requires { ⌜ Room count cells (now weights) (now noise) (now floats) (now marks) × (weighted ≡ mask (now weights)) × Lookups (now weights) (now logs) (now sums) ⌝ }
+    requires { ⌜ Alongside count cells (now weights) (now noise) (now floats) (now marks) × (weighted ≡ mask (now weights)) × Lookups (now weights) (now logs) (now sums) ⌝ }
     requires { ⌜ (cell < cells) × (pattern < count) × (possible (now domains) cell pattern ≡ 1) ⌝ }
     ensures { λ r. ⌜ stateOf count (now (domains .exit)) (now (counts .exit)) (now (pending .exit)) r (beside (now (floats .exit)) (now (marks .exit)))
         ≡ worklist.remove count (watching (now (weights .entry)) (now (noise .entry)) cells) (removal cell pattern)
@@ -121,7 +121,7 @@ fn decrements(
     pile: Pile,
 ) -> Pile
     requires { ⌜ Lent count cells (now domains) (now counts) (now pending) pile ⌝ }
-    requires { ⌜ Room count cells (now weights) (now noise) (now floats) (now marks) × (weighted ≡ mask (now weights)) × Lookups (now weights) (now logs) (now sums) ⌝ }
+    requires { ⌜ Alongside count cells (now weights) (now noise) (now floats) (now marks) × (weighted ≡ mask (now weights)) × Lookups (now weights) (now logs) (now sums) ⌝ }
     requires { ⌜ (cell < cells) × (d < 4) × AllBelow count (now list) ⌝ }
     ensures { λ r. ⌜ stateOf count (now (domains .exit)) (now (counts .exit)) (now (pending .exit)) r (beside (now (floats .exit)) (now (marks .exit)))
         ≡ worklist.decrements count (watching (now (weights .entry)) (now (noise .entry)) cells) cell d (now (list .entry))
@@ -188,7 +188,7 @@ fn spread_in(
 ) -> Pile
     requires { ⌜ Lent count cells (now domains) (now counts) (now pending) pile ⌝ }
     requires { ⌜ Ground (table count (now offsets) (now ids)) (grid width height mode) cells × (cell < cells) × (p < count) × (d < 4) ⌝ }
-    requires { ⌜ Room count cells (now weights) (now noise) (now floats) (now marks) × (weighted ≡ mask (now weights)) × Lookups (now weights) (now logs) (now sums) ⌝ }
+    requires { ⌜ Alongside count cells (now weights) (now noise) (now floats) (now marks) × (weighted ≡ mask (now weights)) × Lookups (now weights) (now logs) (now sums) ⌝ }
     ensures { λ r. ⌜ stateOf count (now (domains .exit)) (now (counts .exit)) (now (pending .exit)) r (beside (now (floats .exit)) (now (marks .exit)))
         ≡ worklist.spreadIn (table count (now (offsets .entry)) (now (ids .entry))) (grid width height mode) (watching (now (weights .entry)) (now (noise .entry)) cells) (removal cell p) d
         (stateOf count (now (domains .entry)) (now (counts .entry)) (now (pending .entry)) pile (beside (now (floats .entry)) (now (marks .entry)))) ⌝ }
@@ -242,7 +242,7 @@ fn spread(
 ) -> Pile
     requires { ⌜ Lent count cells (now domains) (now counts) (now pending) pile ⌝ }
     requires { ⌜ Ground (table count (now offsets) (now ids)) (grid width height mode) cells × (cell < cells) × (p < count) ⌝ }
-    requires { ⌜ Room count cells (now weights) (now noise) (now floats) (now marks) × (weighted ≡ mask (now weights)) × Lookups (now weights) (now logs) (now sums) ⌝ }
+    requires { ⌜ Alongside count cells (now weights) (now noise) (now floats) (now marks) × (weighted ≡ mask (now weights)) × Lookups (now weights) (now logs) (now sums) ⌝ }
     ensures { λ r. ⌜ stateOf count (now (domains .exit)) (now (counts .exit)) (now (pending .exit)) r (beside (now (floats .exit)) (now (marks .exit)))
         ≡ worklist.spread (table count (now (offsets .entry)) (now (ids .entry))) (grid width height mode) (watching (now (weights .entry)) (now (noise .entry)) cells) (removal cell p)
         (stateOf count (now (domains .entry)) (now (counts .entry)) (now (pending .entry)) pile (beside (now (floats .entry)) (now (marks .entry)))) ⌝ }
@@ -310,10 +310,10 @@ pub(crate) fn pop(
 ) -> Pile
     requires { ⌜ Lent count cells (now domains) (now counts) (now pending) pile ⌝ }
     requires { ⌜ Ground (table count (now offsets) (now ids)) (grid width height mode) cells × (0 < pile .top) ⌝ }
-    requires { ⌜ Room count cells (now weights) (now noise) (now floats) (now marks) × (weighted ≡ mask (now weights)) × Lookups (now weights) (now logs) (now sums) ⌝ }
+    requires { ⌜ Alongside count cells (now weights) (now noise) (now floats) (now marks) × (weighted ≡ mask (now weights)) × Lookups (now weights) (now logs) (now sums) ⌝ }
     ensures { λ r. ⌜ stateOf count (now (domains .exit)) (now (counts .exit)) (now (pending .exit)) r (beside (now (floats .exit)) (now (marks .exit)))
         ≡ worklist.spread (table count (now (offsets .entry)) (now (ids .entry))) (grid width height mode) (watching (now (weights .entry)) (now (noise .entry)) cells) (topOf count (now (pending .entry)) pile)
-        (stateOf count (now (domains .entry)) (now (counts .entry)) (now (pending .entry)) (lowered pile) (beside (now (floats .entry)) (now (marks .entry)))) ⌝ }
+        (stateOf count (now (domains .entry)) (now (counts .entry)) (now (pending .entry)) (belowTop pile) (beside (now (floats .entry)) (now (marks .entry)))) ⌝ }
 {
     let top = pile.top - 1;
     let u = slot(pending[top]);

@@ -6,7 +6,7 @@ ghost use Rattle.refusals.specs.Refusals.{answer};
 ghost use Rattle.adjacency.specs.Tables.{table};
 ghost use Rattle.grid.specs.Grid.{grid};
 ghost use Rattle.propagation.specs.Lent.{Ground};
-ghost use Rattle.propagation.specs.Given.{Given};
+ghost use Rattle.propagation.specs.Given.{Starting};
 ghost use Rattle.propagation.specs.Propagate.{reducedFrom, outcome, outcomeAt};
 use crate::inner::start::zero_bytes;
 use crate::inner::start::zero_domains;
@@ -26,7 +26,7 @@ fn reduce(
     pending: &mut [u32],
 ) -> bool
     requires { ⌜ Ground (table count (now offsets) (now ids)) (grid width height mode) (length (now domains)) ⌝ }
-    requires { ⌜ Given count (now domains) (now counts) (now pending) ⌝ }
+    requires { ⌜ Starting count (now domains) (now counts) (now pending) ⌝ }
     ensures { λ r. ⌜ r ≡ reducedFrom (table count (now (offsets .entry)) (now (ids .entry))) (grid width height mode) (now (domains .entry)) .empty ⌝ }
     ensures { λ r. ⌜ now (domains .exit) ≡ reducedFrom (table count (now (offsets .entry)) (now (ids .entry))) (grid width height mode) (now (domains .entry)) .domains ⌝ }
 {
@@ -72,7 +72,7 @@ pub(crate) fn settle(
     pending: &mut [u32],
 ) -> bool
     requires { ⌜ Ground (table count (now offsets) (now ids)) (grid width height mode) (length (now domains)) ⌝ }
-    requires { ⌜ Given count (now domains) (now counts) (now pending) ⌝ }
+    requires { ⌜ Starting count (now domains) (now counts) (now pending) ⌝ }
     ensures { λ r. ⌜ outcome (answer r) (now (domains .exit)) (now (counts .exit)) (now (pending .exit))
         ≡ outcomeAt 0 (table count (now (offsets .entry)) (now (ids .entry))) (grid width height mode)
         (now (domains .entry)) (now (counts .entry)) (now (pending .entry)) ⌝ }

@@ -1,9 +1,11 @@
 // Cases: each is read whole, then answered. How much of one is kept, what it is answered, and the words for why no more is, are `stream`'s to say.
 ghost use mathlib.Core.Path.{_≡_};
 ghost use Prim.Native.Nat.{_<_};
-ghost use lib.ListN.{length};
+ghost use lib.ListN.{length, take};
+ghost use Rattle.bounded.specs.Laid.{Front};
 ghost use Rattle.stream.specs.Cases.{Rooms};
 use crate::input;
+use crate::input::Judged;
 use libc::STDERR_FILENO;
 use libc::STDOUT_FILENO;
 use stream::inner::Next;
@@ -53,17 +55,25 @@ fn words_in(memory: &mut [u8]) -> Part {
 }
 
 // Answers a case of which all is read, and whether the answer is written to its end.
-fn answer(size: usize, sheet: &[u8], noises: usize, noise: &[u8], many: usize, words: &[u8]) -> bool
-    requires { ⌜ Rooms (now sheet) (now noise) (now words) ⌝ }
+fn answer(
+    size: usize,
+    sheet: &[u8],
+    formed: bool,
+    noises: usize,
+    noise: &[u8],
+    many: usize,
+    words: &[u8],
+) -> bool
+    requires { ⌜ Rooms (now noise) (now words) × Front (take size (now sheet)) formed ⌝ }
 {
     let mut out = stream::inner::answer_room();
-    let n = stream::inner::answer(size, sheet, noises, noise, many, words, &mut out);
+    let n = stream::inner::answer(size, sheet, formed, noises, noise, many, words, &mut out);
     io::write_all(STDOUT_FILENO, &out[..n])
 }
 
 // The noise, the words and the answer.
-fn rest(size: usize, sheet: &[u8], noise: &mut [u8], words: &mut [u8]) -> bool
-    requires { ⌜ Rooms (now sheet) (now noise) (now words) ⌝ }
+fn rest(size: usize, sheet: &[u8], formed: bool, noise: &mut [u8], words: &mut [u8]) -> bool
+    requires { ⌜ Rooms (now noise) (now words) × Front (take size (now sheet)) formed ⌝ }
 {
     let Part::Bytes(noises) = words_in(noise) else {
         return say(CUT_OFF);
@@ -71,7 +81,7 @@ fn rest(size: usize, sheet: &[u8], noise: &mut [u8], words: &mut [u8]) -> bool
     let Part::Bytes(many) = words_in(words) else {
         return say(CUT_OFF);
     };
-    if !answer(size, sheet, noises, noise, many, words) {
+    if !answer(size, sheet, formed, noises, noise, many, words) {
         return say(UNWRITTEN);
     }
     true
@@ -79,17 +89,17 @@ fn rest(size: usize, sheet: &[u8], noise: &mut [u8], words: &mut [u8]) -> bool
 
 // Reads a case into the memory that is lent, and answers it.
 fn next_in(sheet: &mut [u8], noise: &mut [u8], words: &mut [u8]) -> bool
-    requires { ⌜ Rooms (now sheet) (now noise) (now words) ⌝ }
+    requires { ⌜ (90273 ≡ length (now sheet)) × Rooms (now noise) (now words) ⌝ }
 {
     match input::number() {
         Next::End => ended(),
         Next::Short => say(CUT_OFF),
         Next::Number(n) => {
             let size = wide(n);
-            if !input::fill(size, sheet) {
+            let Judged::Formed(formed) = input::sheet(size, sheet) else {
                 return say(CUT_OFF);
-            }
-            rest(size, sheet, noise, words)
+            };
+            rest(size, sheet, formed, noise, words)
         }
     }
 }

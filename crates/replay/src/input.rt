@@ -1,8 +1,14 @@
-// Numbers and bytes from standard input. No contract can say what a stream has; it says what is done with the memory that is lent.
+// Numbers, words and sheets from standard input. No contract can say what a stream has; it says what is done with the memory that is lent and, of a
+// sheet, that there are bytes whose front it has and all of which were judged.
 ghost use mathlib.Core.Path.{_≡_};
 ghost use Prim.Native.Nat.{_≤_, min};
 ghost use lib.ListN.{length, drop};
+ghost use Rattle.replay.specs.Input.{Rest, Whole};
 use libc::STDIN_FILENO;
+use scan::inner::Scan;
+use scan::inner::formed;
+use scan::inner::past;
+use scan::inner::start;
 use stream::inner::Next;
 use stream::inner::least;
 use stream::inner::next_of;
@@ -23,6 +29,8 @@ pub(crate) fn ended() -> bool {
 fn bytes(out: &mut [u8]) -> bool {
     io::read_full(STDIN_FILENO, out) == out.len()
 }
+
+// ---- noise and words
 
 // Reads past as many of the bytes that are left as the buffer takes, and answers how many are left then.
 fn pass_in(left: usize, buffer: &mut [u8]) -> usize
@@ -63,4 +71,50 @@ pub(crate) fn fill(many: usize, memory: &mut [u8]) -> bool
         return false;
     }
     skip(many - kept)
+}
+
+// ---- a sheet
+
+// Whether all bytes of a sheet are one, or that the stream ends in them.
+pub(crate) enum Judged {
+    Formed(bool),
+    CutOff,
+}
+
+// The rest of a sheet is read past, as much at a time as the buffer takes, and judged from the state on that its front led to.
+fn judge_in(many: usize, state: Scan, buffer: &mut [u8]) -> Judged
+    requires { ⌜ 4096 ≡ length (now buffer) ⌝ }
+    ensures { λ r. ⌜ Rest many state r ⌝ }
+{
+    let mut left = many;
+    let mut reached = state;
+    while left > 0 {
+        let part = least(left, buffer.len());
+        if !bytes(&mut buffer[..part]) {
+            return Judged::CutOff;
+        }
+        reached = past(reached, &buffer[..part]);
+        left -= part;
+    }
+    Judged::Formed(formed(reached))
+}
+
+// The same, with a buffer.
+fn judge(many: usize, state: Scan) -> Judged
+    ensures { λ r. ⌜ Rest many state r ⌝ }
+{
+    let mut buffer = io::buffer();
+    judge_in(many, state, &mut buffer)
+}
+
+// A sheet of so many bytes: as many as there is room for go to the front of the memory, and all of them are judged.
+pub(crate) fn sheet(many: usize, memory: &mut [u8]) -> Judged
+    requires { ⌜ 90273 ≡ length (now memory) ⌝ }
+    ensures { λ r. ⌜ Whole many (now (memory .exit)) r ⌝ }
+{
+    let kept = least(many, memory.len());
+    if !bytes(&mut memory[..kept]) {
+        return Judged::CutOff;
+    }
+    judge(many - kept, past(start(), &memory[..kept]))
 }

@@ -11,14 +11,14 @@ use Rattle.grid.specs.Grid.{cells}
 use Rattle.consistency.specs.Domains.{possible, Sub}
 use Rattle.consistency.specs.Worklist.{Removal, State}
 use Rattle.consistency.specs.Start.{others}
-use Rattle.consistency.specs.Parts.{lessened}
+use Rattle.consistency.specs.Parts.{removedAll}
 use Rattle.propagation.specs.Beside.{Beside}
 use Rattle.run.specs.declared.Forbid.{Forbid}
 use Rattle.run.specs.Run.{Given, begun, laidAll, notesOf, Ended, Turn, turn, collapse, runOf}
 use Rattle.run.specs.Course.{Lawful, Reached, forbade, chose, Final}
 use Rattle.consistency.proofs.DomainLaws.{pattern-below}
 use Rattle.consistency.proofs.RemovalLaws.{others-inside, spared-others}
-use Rattle.consistency.proofs.LessenedLaws.{possible-lessened, sub-lessened}
+use Rattle.consistency.proofs.RemovedAllLaws.{possible-removedAll, sub-removedAll}
 use Rattle.consistency.proofs.Settled.{Settled}
 use Rattle.run.proofs.TurnLaws.{Chosen, counts-open, turn-over, turn-on, collapse-over, collapse-on}
 use Rattle.run.proofs.StateLaws.{Stands, reducedBy-settled, reached-stands}
@@ -36,7 +36,7 @@ module _ (i : Given) (fs : List Forbid) (L : Lawful i fs) (words : List ℕ) (us
   chosen-open = counts-open (notesOf i s) (c .cell) (c .counting)
 
   -- its propagation leaves the greatest consistent subset of what is left
-  pub chosen-settled : Settled (i .table) (i .grid) (lessened (others (i .table .count) (c .cell) (c .pattern)) (s .domains)) s′
+  pub chosen-settled : Settled (i .table) (i .grid) (removedAll (others (i .table .count) (c .cell) (c .pattern)) (s .domains)) s′
   chosen-settled =
       rw (c .made)
       (reducedBy-settled i (L .accepted) (others (i .table .count) (c .cell) (c .pattern)) s (others-inside _ _ _ _ inside) (S .settled .ready (c .whole)))
@@ -45,13 +45,13 @@ module _ (i : Given) (fs : List Forbid) (L : Lawful i fs) (words : List ℕ) (us
     -- it restores no pattern
     pub chosen-sub : Sub (s′ .domains) (s .domains)
     chosen-sub m q h =
-        sub-lessened (others (i .table .count) (c .cell) (c .pattern)) (s .domains) m q (chosen-settled .greatest .below m q (rw (chosen-settled .left e) at h))
+        sub-removedAll (others (i .table .count) (c .cell) (c .pattern)) (s .domains) m q (chosen-settled .greatest .below m q (rw (chosen-settled .left e) at h))
 
     -- it leaves the cell no pattern but one
     pub chosen-one : (q : ℕ) → possible (s′ .domains) (c .cell) q ≡ 1 → q ≡ c .pattern
     chosen-one q h =
         spared-others (i .table .count) (c .cell) (c .pattern) (c .cell) q (pattern-below (chosen-settled .safe .fit) (c .cell) q h) .0
-        (possible-lessened (others (i .table .count) (c .cell) (c .pattern)) (s .domains) (c .cell) q .0 (chosen-settled .greatest .below (c .cell) q (rw (chosen-settled .left e) at h)) .0)
+        (possible-removedAll (others (i .table .count) (c .cell) (c .pattern)) (s .domains) (c .cell) q .0 (chosen-settled .greatest .below (c .cell) q (rw (chosen-settled .left e) at h)) .0)
         refl
 
     -- it leaves fewer open cells

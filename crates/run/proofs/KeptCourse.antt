@@ -7,7 +7,7 @@ use Prim.Native.Nat.{ℕ}
 use Rattle.grid.specs.Grid.{cells}
 use Rattle.consistency.specs.Worklist.{Removal, State, forbids}
 use Rattle.consistency.specs.Start.{others}
-use Rattle.propagation.specs.Beside.{Beside, kept, unmarked, lessened as valued}
+use Rattle.propagation.specs.Beside.{Beside, kept, unmarked, lessened}
 use Rattle.run.specs.declared.Forbid.{Forbid}
 use Rattle.run.specs.Run.{Given, begun, reducedBy, asked, laid, laidAll, Turn, turn}
 use Rattle.run.specs.Course.{Reached, forbade, chose}
@@ -16,7 +16,7 @@ use Rattle.consistency.proofs.KeptLaws.{Stays, Holds, holds-forbids, holds-prop
 
 -- it stays so whatever a run does beside the domains
 pub record Lasts (i : Given) (A : List ℕ → Beside → Type 0) : Type 0 where
-  pub asked : Stays (valued (i .weights)) A
+  pub asked : Stays (lessened (i .weights)) A
   pub following : Stays (kept (i .weights) (i .noise) (cells (i .grid))) A
   pub renewed : (D : List ℕ) (x : Beside) → A D x → A D (unmarked (cells (i .grid)) x)
 
@@ -25,9 +25,9 @@ module _ (i : Given) (A : List ℕ → Beside → Type 0) (lasts : Lasts i A) wh
   pub holds-reduced : (us : List Removal) (s : State Beside) → Holds A s → Holds A (reducedBy i us s)
   unfolding reducedBy
   holds-reduced us s a =
-      let r = forbids (i .table .count) (valued (i .weights)) us s in
+      let r = forbids (i .table .count) (lessened (i .weights)) us s in
       holds-propagated (i .table) (i .grid) (kept (i .weights) (i .noise) (cells (i .grid))) A (lasts .following) _
-      (lasts .renewed (r .domains) (r .beside) (holds-forbids (i .table .count) (valued (i .weights)) A (lasts .asked) us s a))
+      (lasts .renewed (r .domains) (r .beside) (holds-forbids (i .table .count) (lessened (i .weights)) A (lasts .asked) us s a))
 
   holds-laid : (fs : List Forbid) (s : State Beside) → Holds A s → Holds A (laidAll i fs s)
   unfolding laidAll laid

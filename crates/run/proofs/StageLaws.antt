@@ -3,13 +3,13 @@
 use mathlib.Core.Bool.{Bool, true, false, cond}
 use mathlib.Core.List.{List, [], _∷_, _++_}
 use mathlib.Core.Path.{_≡_, refl, sym, ap, _∙_}
-use Prim.Native.Nat.{ℕ, zero, suc, _+_, _≤_, _<_}
+use Prim.Native.Nat.{ℕ, zero, suc, _+_, _<_}
 use native.Mathlib.Numerals.{add-one}
 use native.Mathlib.Omega.{arith}
 use lib.Dec.{eqb}
 use lib.ListN.{length, replicate}
 use borrow.Author.Tests.{eqb-true, ne-eqb}
-use Rattle.refusals.specs.Refusals.{firstOf, answer}
+use Rattle.refusals.specs.Refusals.{Test, firstOf, answer}
 use Rattle.grid.specs.Grid.{cells}
 use Rattle.consistency.specs.Worklist.{State}
 use Rattle.consistency.specs.Start.{start}
@@ -18,8 +18,8 @@ use Rattle.run.specs.declared.Forbid.{Forbid}
 use Rattle.run.specs.Run.{Given, begun, laid, laidAll, Ended, ended, collapse, runOf}
 use Rattle.run.specs.Course.{Placed}
 use Rattle.run.specs.Called.{Memory, Room, roomOf, Measured, baseTests, forbidTests, testsOf, outcome, cleared, finished, calledOf}
-use Rattle.run.specs.Stages.{Stage, refusedAt, contradicted, standing, stateIn, stageOf, Standing, beginAt, firstBad, beginning, layAt, lay, layAll, concluding, Concluded}
-use Rattle.refusals.proofs.RefusalLaws.{first-append, first-most}
+use Rattle.run.specs.Stages.{Stage, refusedAt, contradicted, standing, stateIn, contradictionCode, stageOf, Standing, beginAt, firstBad, beginning, layAt, lay, layAll, concluding, Concluded}
+use Rattle.refusals.proofs.RefusalLaws.{first-empty, first-append, first-most}
 use Rattle.run.proofs.StateLaws.{forbade-settled}
 use Rattle.run.proofs.TurnLaws.{collapse-over}
 use Rattle.run.proofs.TurnsLaws.{turn-empty}
@@ -30,7 +30,7 @@ use Rattle.run.proofs.CalledLaws.{Granted, called-granted, called-accep
 -- the code of a stage
 codeOf : Stage → ℕ
 codeOf (refusedAt n m) = n
-codeOf contradicted = 12
+codeOf contradicted = contradictionCode
 codeOf (standing s) = 0
 
 -- the state of a stage, or another
@@ -44,10 +44,10 @@ module _ (P : ℕ) where
   stage-code : (code : ℕ) (m : Memory) → codeOf (stageOf P code m) ≡ code
   unfolding stageOf codeOf
   stage-code zero m = refl
-  stage-code (suc n) m = go (eqb (suc n) 12) refl
+  stage-code (suc n) m = go (eqb (suc n) contradictionCode) refl
     where
-      go : (b : Bool) → eqb (suc n) 12 ≡ b → codeOf (cond b contradicted (refusedAt (suc n) m)) ≡ suc n
-      go true e = sym (eqb-true (suc n) 12 e)
+      go : (b : Bool) → eqb (suc n) contradictionCode ≡ b → codeOf (cond b contradicted (refusedAt (suc n) m)) ≡ suc n
+      go true e = sym (eqb-true (suc n) contradictionCode e)
       go false e = refl
 
   -- and, while the run goes on, its state
@@ -55,10 +55,10 @@ module _ (P : ℕ) where
   unfolding stageOf stateOr
   stage-state m s e = ap (stateOr s) e
 
-  -- a refusal's number is that of a refused call
-  pub stage-refused : (n : ℕ) (m : Memory) → n < 11 → stageOf P (suc n) m ≡ refusedAt (suc n) m
+  -- a code below a contradiction's is that of a refused call
+  pub stage-refused : (n : ℕ) (m : Memory) → suc n < contradictionCode → stageOf P (suc n) m ≡ refusedAt (suc n) m
   unfolding stageOf
-  stage-refused n m h = ap (λ (b : Bool). cond b contradicted (refusedAt (suc n) m)) (ne-eqb (suc n) 12 (λ e. omega (arith, e, h)))
+  stage-refused n m h = ap (λ (b : Bool). cond b contradicted (refusedAt (suc n) m)) (ne-eqb (suc n) contradictionCode (λ e. omega (arith, e, h)))
 
 -- ---- the beginning
 
@@ -77,7 +77,7 @@ module _ (bad lent : ℕ) (i : Given) (m : Memory) where
   unfolding beginning beginAt
   begin-accepted e = ap (λ (n : ℕ). beginAt n i m) e
 
-  begin-refused : (n : ℕ) → firstBad bad lent i m ≡ suc n → n < 11 → beginning bad lent i m ≡ refusedAt (suc n) m
+  begin-refused : (n : ℕ) → firstBad bad lent i m ≡ suc n → suc n < contradictionCode → beginning bad lent i m ≡ refusedAt (suc n) m
   unfolding beginning beginAt
   begin-refused n e h = ap (λ (n : ℕ). beginAt n i m) e ∙ stage-refused (i .table .count) n m h
 
@@ -98,6 +98,11 @@ begun-whole i = refl
 pub placed-append : (P n : ℕ) (fs gs : List Forbid) → Placed P n fs → Placed P n gs → Placed P n (fs ++ gs)
 placed-append P n [] gs h k = k
 placed-append P n (f ∷ fs) gs h k = (h .0, h .1, placed-append P n fs gs (h .2) k)
+
+-- and the other way round
+pub placed-parts : (P n : ℕ) (fs gs : List Forbid) → Placed P n (fs ++ gs) → Placed P n fs × Placed P n gs
+placed-parts P n [] gs h = (tt, h)
+placed-parts P n (f ∷ fs) gs h = let (a, b) = placed-parts P n fs gs (h .2) in ((h .0, h .1, a), b)
 
 module _ (i : Given) where
   -- after a contradiction no forbid is laid
@@ -132,7 +137,7 @@ module _ (i : Given) where
   pub laying-stops : (fs : List Forbid) (code : ℕ) (m : Memory) → (code ≡ 0 → ⊥) → layAll i fs (stageOf (i .table .count) code m) ≡ stageOf (i .table .count) code m
   unfolding stageOf
   laying-stops fs zero m h = absurd (h refl)
-  laying-stops fs (suc n) m h = go (eqb (suc n) 12)
+  laying-stops fs (suc n) m h = go (eqb (suc n) contradictionCode)
     where
       go : (b : Bool) → layAll i fs (cond b contradicted (refusedAt (suc n) m)) ≡ cond b contradicted (refusedAt (suc n) m)
       go true = contradicted-kept fs
@@ -245,15 +250,15 @@ module _ (i : Given) where
         marks = ap (λ (r : Room). r .marks) e ∙ M .marks;
       }
 
-  -- the beginning: a code that is 0 or a refusal's number
-  pub begun-few : (lent : ℕ) (fs : List Forbid) (m : Memory) (code : ℕ) (m′ : Memory)
-      → stageOf (i .table .count) code m′ ≡ beginning (firstOf (forbidTests (i .table) (i .grid) fs)) lent i m → code ≤ 11
-  begun-few lent fs m code m′ e = omega (arith, begin-code _ lent i m code m′ e, first-bad lent i fs m, first-most (testsOf lent i fs m))
+  -- the beginning: its code is what all tests come to
+  begun-tested : (lent : ℕ) (fs : List Forbid) (m : Memory) (code : ℕ) (m′ : Memory)
+      → stageOf (i .table .count) code m′ ≡ beginning (firstOf (forbidTests (i .table) (i .grid) fs)) lent i m → code ≡ firstOf (testsOf lent i fs m)
+  begun-tested lent fs m code m′ e = begin-code _ lent i m code m′ e ∙ first-bad lent i fs m
 
   -- where it is 0 nothing is refused
   begun-granted : (lent : ℕ) (fs : List Forbid) (m : Memory) (code : ℕ) (m′ : Memory)
       → stageOf (i .table .count) code m′ ≡ beginning (firstOf (forbidTests (i .table) (i .grid) fs)) lent i m → code ≡ 0 → Granted lent i fs m
-  begun-granted lent fs m code m′ e z = called-granted lent i fs m (sym (first-bad lent i fs m) ∙ sym (begin-code _ lent i m code m′ e) ∙ z)
+  begun-granted lent fs m code m′ e z = called-granted lent i fs m (sym (begun-tested lent fs m code m′ e) ∙ z)
 
   -- so every forbid is of the grid
   pub begun-placed : (lent : ℕ) (fs : List Forbid) (m : Memory) (code : ℕ) (m′ : Memory)
@@ -286,9 +291,9 @@ module _ (i : Given) where
   pub begun-concluded : (lent : ℕ) (fs : List Forbid) (m : Memory) (code : ℕ) (m′ : Memory)
       → stageOf (i .table .count) code m′ ≡ beginning (firstOf (forbidTests (i .table) (i .grid) fs)) lent i m → roomOf m′ ≡ roomOf m → Concluded i code m′
   begun-concluded lent fs m code m′ e same =
-      record { few = omega (arith, begun-few lent fs m code m′ e); standing = begun-standing lent fs m code m′ e same }
+      record { tested = λ _. (testsOf lent i fs m, begun-tested lent fs m code m′ e); standing = begun-standing lent fs m code m′ e same }
 
-  -- forbids from where the run stands: a code that is 0 or 12, and 0 where the run stands again
+  -- forbids from where the run stands: a code that is 0 or a contradiction's, and 0 where the run stands again
   module _ (fs : List Forbid) (m : Memory) (S : Standing i m) (r : ℕ) (m′ : Memory)
       (e : stageOf (i .table .count) r m′ ≡ layAll i fs (standing (stateIn (i .table .count) m))) where
     abbrev after : State Beside
@@ -297,25 +302,25 @@ module _ (i : Given) where
     laid-stage : stageOf (i .table .count) r m′ ≡ staged i after
     laid-stage = e ∙ layAll-standing i fs (stateIn (i .table .count) m) refl
 
-    laid-code : r ≡ cond (after .empty) 12 0
+    laid-code : r ≡ cond (after .empty) contradictionCode 0
     unfolding staged codeOf
     laid-code = sym (stage-code (i .table .count) r m′) ∙ ap codeOf laid-stage ∙ go (after .empty)
       where
-        go : (b : Bool) → codeOf (cond b contradicted (standing after)) ≡ cond b 12 0
+        go : (b : Bool) → codeOf (cond b contradicted (standing after)) ≡ cond b contradictionCode 0
         go true = refl
         go false = refl
 
-    pub laid-few : r ≤ 12
-    laid-few = rw laid-code (go (after .empty))
+    laid-tested : (r ≡ contradictionCode → ⊥) → (tests : List Test) × (r ≡ firstOf tests)
+    laid-tested h = go (after .empty) laid-code
       where
-        go : (b : Bool) → cond b 12 0 ≤ 12
-        go true = omega arith
-        go false = omega arith
+        go : (b : Bool) → r ≡ cond b contradictionCode 0 → (tests : List Test) × (r ≡ firstOf tests)
+        go true e = absurd (h e)
+        go false e = ([], e ∙ sym first-empty)
 
     laid-whole : r ≡ 0 → after .empty ≡ false
     laid-whole z = go (after .empty) laid-code
       where
-        go : (b : Bool) → r ≡ cond b 12 0 → b ≡ false
+        go : (b : Bool) → r ≡ cond b contradictionCode 0 → b ≡ false
         go true h = absurd (omega (arith, h, z))
         go false h = refl
 
@@ -339,7 +344,7 @@ module _ (i : Given) where
 
     -- so they leave what the conclusion takes
     laid-concluded : Placed (i .table .count) (cells (i .grid)) fs → roomOf m′ ≡ roomOf m → Concluded i r m′
-    laid-concluded placed same = record { few = laid-few; standing = laid-standing placed same }
+    laid-concluded placed same = record { tested = laid-tested; standing = laid-standing placed same }
 
   -- one forbid from where the run stands
   pub lay-concluded : (f : Forbid) (m : Memory) → Standing i m → (r : ℕ) (m′ : Memory) → stageOf (i .table .count) r m′ ≡ layAt i f (stateIn (i .table .count) m)
@@ -353,7 +358,10 @@ module _ (i : Given) where
   unfolding stageOf
   layAll-concluded fs zero m C placed r m′ e same = laid-concluded fs m (C .standing refl) r m′ e (placed refl) same
   layAll-concluded fs (suc n) m C placed r m′ e same =
-      record { few = omega (arith, kept, C .few); standing = λ z. absurd (omega (arith, kept, z)) }
+      record {
+        tested = λ h. let (tests, first) = C .tested (λ z. h (kept ∙ z)) in (tests, kept ∙ first);
+        standing = λ z. absurd (omega (arith, kept, z));
+      }
     where
       kept : r ≡ suc n
       kept =

@@ -17,16 +17,15 @@ use Rattle.logarithms.specs.Blocks.{blocks}
 use Rattle.consistency.specs.Worklist.{State, state}
 use Rattle.propagation.specs.declared.inner.Pile.{Pile}
 use Rattle.propagation.specs.Beside.{Beside, besideIn}
-use Rattle.propagation.specs.Lent.{pendingOf, stateOf, Lent, Roomy, Room, Ground}
+use Rattle.propagation.specs.Lent.{pendingOf, stateOf, Lent, Roomy, Alongside, Ground}
 use Rattle.run.specs.declared.Forbid.{Forbid}
 use Rattle.run.specs.declared.Answer.the-variants.{Contradiction, Refused}
 use Rattle.run.specs.declared.collapse.Stop.{Stop}
 use Rattle.run.specs.Run.{Given, begun, asked, laid, Ended, collapse}
 use Rattle.run.specs.Course.{fullLess, wanted}
-use Rattle.run.specs.Called as calls
-use Rattle.run.specs.Called.{Memory, memory, roomOf, Opened, baseTests, testsOf, forbidTests, End, answerTold, Outcome, outcome, cleared, finished}
+use Rattle.run.specs.Called.{Memory, memory, Room, room, roomOf, Opened, baseTests, testsOf, forbidTests, End, answerTold, Outcome, outcome, cleared, finished}
 use Rattle.run.specs.Steps.{idle, endedAs}
-use Rattle.run.specs.Stages.{contradicted, standing, stateIn, stageOf, Standing, beginAt, firstBad, beginning, layAt, concluding}
+use Rattle.run.specs.Stages.{contradicted, standing, stateIn, contradictionCode, stageOf, Standing, beginAt, firstBad, beginning, layAt, concluding}
 use Rattle.consistency.proofs.Settled.{Settled}
 use Rattle.propagation.proofs.LentLaws.{safe-beside}
 use Rattle.run.proofs.StateLaws.{asked-inside, reducedBy-settled, forbade-settled}
@@ -46,9 +45,7 @@ base-granted lent i m e = called-granted lent i [] m (ap firstOf (append-nil (ba
 -- room for the start
 pub granted-opened : {lent : ℕ} {i : Given} {m : Memory} → Granted lent i [] m
     → Opened (i .table .count) (cells (i .grid)) (m .domains) (m .counts) (m .floats) (m .marks)
-granted-opened G =
-    let M = G .memory in
-    record { some = omega (arith, mul-le-mul (G .sized .tall) (G .sized .wide)); words = M .domains; supports = M .counts; values = M .floats; notes = M .marks }
+granted-opened {m = m} G = record { some = omega (arith, mul-le-mul (G .sized .tall) (G .sized .wide)); pending = m .pending; measured = G .memory }
 
 module _ (bad lent : ℕ) (i : Given) (m : Memory) {n : ℕ} (e : n ≡ firstOf (baseTests i lent (roomOf m))) where
   -- a refusal leaves all as it was
@@ -134,8 +131,8 @@ module _ {i : Given} {m : Memory} (S : Standing i m) where
         laid = laid-at (i .table .count) (m .domains) (m .counts) (m .pending) (m .floats) (m .marks) M (S .laid) e;
       }
 
-  pub standing-room : Room (i .table .count) (length (m .domains)) (i .weights) (i .noise) (m .floats) (m .marks)
-  standing-room = record { weighed = S .laid .lawful .weighed; marked = standing-roomy .marked; roomy = λ _ _. standing-roomy }
+  pub standing-alongside : Alongside (i .table .count) (length (m .domains)) (i .weights) (i .noise) (m .floats) (m .marks)
+  standing-alongside = record { weighed = S .laid .lawful .weighed; marked = standing-roomy .marked; roomy = λ _ _. standing-roomy }
 
   -- ---- a forbid is laid
 
@@ -149,7 +146,7 @@ module _ {i : Given} {m : Memory} (S : Standing i m) where
     after-empty h = sym (ap (λ (s : State Beside). s .empty) e) ∙ h
 
     -- a cell was emptied
-    pub lay-contradicted : pile .empty ≡ true → stageOf (i .table .count) 12 m′ ≡ layAt i f (stateIn (i .table .count) m)
+    pub lay-contradicted : pile .empty ≡ true → stageOf (i .table .count) contradictionCode m′ ≡ layAt i f (stateIn (i .table .count) m)
     unfolding stageOf layAt
     lay-contradicted h = sym (ap (λ (b : Bool). cond b contradicted (standing after)) (after-empty h))
 
@@ -180,7 +177,7 @@ module _ {i : Given} {m : Memory} (S : Standing i m) where
         (end-most i (S .laid .forbids) (S .laid .lawful) words (run-final i (S .laid .forbids) (S .laid .lawful) words))
 
     -- the answer tells their end, and the work memory is cleared
-    pub turns-concluded : {told : Asked End} {m′ : Memory} {r : calls.Room} → told ≡ answer (record { end = stop .end; used = stop .used })
+    pub turns-concluded : {told : Asked End} {m′ : Memory} {r : Room} → told ≡ answer (record { end = stop .end; used = stop .used })
         → m′ ≡ cleared (cond (eqb (stop .end) 3) (replicate (length D) 0) D) r → r ≡ roomOf m → outcome told m′ ≡ concluding i words (standing (stateIn (i .table .count) m)) m
     unfolding concluding finished endedAs
     turns-concluded {m′ = m′} t c r =
@@ -193,8 +190,8 @@ module _ {i : Given} {m : Memory} (S : Standing i m) where
 -- slices as long as before
 pub room-same : {R : Type 0} (m : Memory) {domains counts pending floats marks : ℕ}
     → (domains ≡ length (m .domains)) × ((counts ≡ length (m .counts)) × ((pending ≡ length (m .pending)) × ((floats ≡ length (m .floats)) × ((marks ≡ length (m .marks)) × R))))
-    → calls.room domains counts pending floats marks ≡ roomOf m
-room-same m (a, (b, (c, (d, (e, _))))) = λ j. calls.room (a j) (b j) (c j) (d j) (e j)
+    → room domains counts pending floats marks ≡ roomOf m
+room-same m (a, (b, (c, (d, (e, _))))) = λ j. room (a j) (b j) (c j) (d j) (e j)
 
 module _ (i : Given) (words : List ℕ) (m : Memory) {code : ℕ} where
   -- the run goes on: its turns
@@ -204,18 +201,18 @@ module _ (i : Given) (words : List ℕ) (m : Memory) {code : ℕ} where
   conclude-standing z e = e ∙ ap (λ (n : ℕ). concluding i words (stageOf (i .table .count) n m) m) (sym z)
 
   -- a forbid emptied a cell: all is zero
-  pub conclude-contradicted : code ≡ 12 → {m′ : Memory} → m′ ≡ cleared (replicate (length (m .domains)) 0) (roomOf m)
+  pub conclude-contradicted : code ≡ contradictionCode → {m′ : Memory} → m′ ≡ cleared (replicate (length (m .domains)) 0) (roomOf m)
       → outcome (answerTold (Contradiction 0)) m′ ≡ concluding i words (stageOf (i .table .count) code m) m
   unfolding stageOf concluding finished answerTold
   conclude-contradicted z e =
       ap (outcome (answer (record { end = 3; used = 0 }))) e ∙ ap (λ (n : ℕ). concluding i words (stageOf (i .table .count) n m) m) (sym z)
 
   -- refused, all is as it was
-  pub conclude-refused : (code ≡ 0 → ⊥) → (code ≡ 12 → ⊥) → (r : Refusal) → number r ≡ code
+  pub conclude-refused : (code ≡ 0 → ⊥) → (code ≡ contradictionCode → ⊥) → (r : Refusal) → number r ≡ code
       → outcome (answerTold (Refused r)) m ≡ concluding i words (stageOf (i .table .count) code m) m
   unfolding answerTold stageOf concluding
   conclude-refused z y r e = ap (λ (n : ℕ). outcome (refused n) m) e ∙ go code z y
     where
-      go : (n : ℕ) → (n ≡ 0 → ⊥) → (n ≡ 12 → ⊥) → outcome (refused n) m ≡ concluding i words (stageOf (i .table .count) n m) m
+      go : (n : ℕ) → (n ≡ 0 → ⊥) → (n ≡ contradictionCode → ⊥) → outcome (refused n) m ≡ concluding i words (stageOf (i .table .count) n m) m
       go zero z y = absurd (z refl)
-      go (suc n) z y = rw (ne-eqb (suc n) 12 y)
+      go (suc n) z y = rw (ne-eqb (suc n) contradictionCode y)

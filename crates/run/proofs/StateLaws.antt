@@ -12,15 +12,15 @@ use Rattle.grid.specs.Grid.{cells}
 use Rattle.consistency.specs.Domains.{filled, Fit}
 use Rattle.consistency.specs.Worklist.{Removal, State, forbids}
 use Rattle.consistency.specs.Start.{others}
-use Rattle.consistency.specs.Parts.{lessened}
+use Rattle.consistency.specs.Parts.{removedAll}
 use Rattle.consistency.specs.Safe.{Inside}
-use Rattle.propagation.specs.Beside.{Beside, kept, unmarked, lessened as valued}
+use Rattle.propagation.specs.Beside.{Beside, kept, unmarked, lessened}
 use Rattle.run.specs.declared.Forbid.{Forbid}
 use Rattle.run.specs.Run.{Given, begun, reducedBy, asked, laid, laidAll, firstBeside, turn, Turn}
 use Rattle.run.specs.Course.{Placed, Lawful, fullLess, wanted, turnedOff, Reached, forbade, chose, removals}
 use Rattle.consistency.proofs.DomainLaws.{fit-filled}
 use Rattle.consistency.proofs.RemovalLaws.{inside-append, others-inside}
-use Rattle.consistency.proofs.LessenedLaws.{fit-lessened, lessened-append, forbids-lessened}
+use Rattle.consistency.proofs.RemovedAllLaws.{fit-removedAll, removedAll-append, forbids-removedAll}
 use Rattle.consistency.proofs.Settled.{Ready, Settled, settled}
 use Rattle.consistency.proofs.SettledLaws.{ready-beside}
 use Rattle.consistency.proofs.StartLaws.{start-settled, forbids-ready}
@@ -47,13 +47,13 @@ module _ (i : Given) (A : Accepted (i .table)) where
 
   -- from a state that is ready, a propagation leaves the greatest consistent subset of what it started from
   pub reducedBy-settled : (us : List Removal) (s : State Beside) → Inside (i .table .count) (cells (i .grid)) us → Ready (i .table) (i .grid) s
-      → Settled (i .table) (i .grid) (lessened us (s .domains)) (reducedBy i us s)
+      → Settled (i .table) (i .grid) (removedAll us (s .domains)) (reducedBy i us s)
   unfolding reducedBy
   reducedBy-settled us s h R =
-      let r = forbids (i .table .count) (valued (i .weights)) us s in
-      subst (λ (D : List ℕ). Settled (i .table) (i .grid) D (reducedBy i us s)) (forbids-lessened (i .table .count) (valued (i .weights)) us s)
+      let r = forbids (i .table .count) (lessened (i .weights)) us s in
+      subst (λ (D : List ℕ). Settled (i .table) (i .grid) D (reducedBy i us s)) (forbids-removedAll (i .table .count) (lessened (i .weights)) us s)
       (settled (i .table) (i .grid) A (kept (i .weights) (i .noise) (cells (i .grid))) _
-      (ready-beside r (unmarked (cells (i .grid)) (r .beside)) (i .table) (i .grid) (forbids-ready (i .table) (i .grid) A (valued (i .weights)) us s h R)))
+      (ready-beside r (unmarked (cells (i .grid)) (r .beside)) (i .table) (i .grid) (forbids-ready (i .table) (i .grid) A (lessened (i .weights)) us s h R)))
 
   -- ---- the start and the forbids
 
@@ -65,13 +65,13 @@ module _ (i : Given) (A : Accepted (i .table)) where
   -- forbids, each propagated before the next, settle what all of them leave
   pub laidAll-settled : (fs : List Forbid) (D : List ℕ) (s : State Beside) → Placed (i .table .count) (cells (i .grid)) fs
       → Fit (i .table .count) (cells (i .grid)) D → Settled (i .table) (i .grid) D s
-      → Settled (i .table) (i .grid) (lessened (wanted (i .table .count) fs) D) (laidAll i fs s)
-  unfolding laidAll laid wanted lessened
+      → Settled (i .table) (i .grid) (removedAll (wanted (i .table .count) fs) D) (laidAll i fs s)
+  unfolding laidAll laid wanted removedAll
   laidAll-settled [] D s h F S = S
   laidAll-settled (f ∷ fs) D s h F S =
       either (s .empty) refl
       (λ e.
-      laidAll-settled fs (lessened us D) (laid i f s) (h .2) (fit-lessened us F)
+      laidAll-settled fs (removedAll us D) (laid i f s) (h .2) (fit-removedAll us F)
       (settled-after (i .table) (i .grid) A us D s (laid i f s) S e (reducedBy-settled us s (asked-inside _ _ f (h .0) (h .1)) (S .ready e))))
     where
       us : List Removal
@@ -80,10 +80,10 @@ module _ (i : Given) (A : Accepted (i .table)) where
       rest : List Removal
       rest = wanted (i .table .count) fs
 
-      either : (b : Bool) → s .empty ≡ b → (s .empty ≡ false → Settled (i .table) (i .grid) (lessened rest (lessened us D)) (laidAll i fs (laid i f s)))
-          → Settled (i .table) (i .grid) (lessened (us ++ rest) D) (cond b s (laidAll i fs (laid i f s)))
+      either : (b : Bool) → s .empty ≡ b → (s .empty ≡ false → Settled (i .table) (i .grid) (removedAll rest (removedAll us D)) (laidAll i fs (laid i f s)))
+          → Settled (i .table) (i .grid) (removedAll (us ++ rest) D) (cond b s (laidAll i fs (laid i f s)))
       either true e k = settled-stays (i .table) (i .grid) A (us ++ rest) D s F S e
-      either false e k = subst (λ (E : List ℕ). Settled (i .table) (i .grid) E (laidAll i fs (laid i f s))) (sym (lessened-append us rest D)) (k e)
+      either false e k = subst (λ (E : List ℕ). Settled (i .table) (i .grid) E (laidAll i fs (laid i f s))) (sym (removedAll-append us rest D)) (k e)
 
 -- ---- every state
 
@@ -104,7 +104,7 @@ module _ (i : Given) (fs : List Forbid) (L : Lawful i fs) where
       record {
         inside = inside-append _ _ vs us (S .inside) h;
         settled =
-            rw (lessened-append vs us)
+            rw (removedAll-append vs us)
             (settled-after (i .table) (i .grid) (L .accepted) us _ s (reducedBy i us s) (S .settled) e (reducedBy-settled i (L .accepted) us s h (S .settled .ready e)));
       }
 
@@ -132,5 +132,5 @@ module _ (i : Given) (fs : List Forbid) (L : Lawful i fs) where
 
     -- every propagation inside a run leaves the greatest consistent subset of what it started from, or a contradiction exactly where that has an empty cell
     pub run-propagates : (us : List Removal) → Inside (i .table .count) (cells (i .grid)) us
-        → Settled (i .table) (i .grid) (lessened us (s .domains)) (reducedBy i us s)
+        → Settled (i .table) (i .grid) (removedAll us (s .domains)) (reducedBy i us s)
     run-propagates us h = reducedBy-settled i (L .accepted) us s h reached-ready

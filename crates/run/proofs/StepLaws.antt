@@ -27,7 +27,7 @@ use Rattle.grid.specs.Grid.{Grid, cells}
 use Rattle.logarithms.specs.Logs.{Logs}
 use Rattle.logarithms.specs.Lookups.{Lookups}
 use Rattle.propagation.specs.Beside.{Beside, lessened, kept, unmarked}
-use Rattle.propagation.specs.Lent.{stateOf, Lent, Room, Ground}
+use Rattle.propagation.specs.Lent.{stateOf, Lent, Alongside, Ground}
 use Rattle.run.specs.declared.Forbid.{Forbid}
 use Rattle.run.specs.Run.{Given, asked, reducedBy, laid, chosen, decided, still, notesOf, sighted, seen, drawn, turn, Turn, ended}
 use Rattle.choice.specs.declared.inner.Observed.{Observed}
@@ -41,7 +41,7 @@ use Rattle.words.proofs.ChangeLaws.{bit-without, bit-without-other, without-le,
 use Rattle.words.proofs.LeastLaws.{least-below, least-found}
 use Rattle.adjacency.proofs.FourLaws.{sixteens-most}
 use Rattle.consistency.proofs.Keep.{safe-remove, safe-forbids}
-use Rattle.propagation.proofs.LentLaws.{lent-safe, lent-after, room-after}
+use Rattle.propagation.proofs.LentLaws.{lent-safe, lent-after, alongside-after}
 use Rattle.run.proofs.StateLaws.{asked-inside}
 use Rattle.choice.proofs.ChoiceLaws.{taken-in}
 use Rattle.choice.proofs.ObserverLaws.{valid-weight}
@@ -218,9 +218,9 @@ module _ {P n : ℕ} {D C Q : List ℕ} {pile : Pile} (L : Lent P n D C Q pile) 
 pub ground-at : {t : Table} {g : Grid} {m n : ℕ} → m ≡ n → Ground t g n → Ground t g m
 ground-at e G = record { accepted = G .accepted; sized = G .sized; all = e ∙ G .all }
 
-pub room-at : {P m n : ℕ} {ws noise marks marks′ : List ℕ} {floats floats′ : List Float} → m ≡ n → length floats′ ≡ length floats → length marks′ ≡ length marks
-    → Room P n ws noise floats marks → Room P m ws noise floats′ marks′
-room-at {P} {m} {n} {ws} {noise} {marks} {marks′} {floats} {floats′} e f k R = subst (λ (j : ℕ). Room P j ws noise floats′ marks′) (sym e) (room-after R f k)
+pub alongside-at : {P m n : ℕ} {ws noise marks marks′ : List ℕ} {floats floats′ : List Float} → m ≡ n → length floats′ ≡ length floats → length marks′ ≡ length marks
+    → Alongside P n ws noise floats marks → Alongside P m ws noise floats′ marks′
+alongside-at {P} {m} {n} {ws} {noise} {marks} {marks′} {floats} {floats′} e f k R = subst (λ (j : ℕ). Alongside P j ws noise floats′ marks′) (sym e) (alongside-after R f k)
 
 -- with the propagation of it the forbid is laid
 pub laid-is : (i : Given) (f : Forbid) (s s₁ : State Beside) {s₂ : State Beside} {n : ℕ} → n ≡ cells (i .grid)

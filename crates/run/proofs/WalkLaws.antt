@@ -96,18 +96,18 @@ module _ (i : Given) (fs : List Forbid) (m₀ : Memory) where
   P = i .table .count
 
   -- the stage after the beginning
-  abbrev pub begun : Stage
-  begun = beginning (refusal i fs) (length fs) i m₀
+  abbrev pub begunStage : Stage
+  begunStage = beginning (refusal i fs) (length fs) i m₀
 
   -- k forbids are laid, and the call stands at the code and the memory m: the others lead from there where all lead, and the memory is as the next call asks
   pub record Going (k code : ℕ) (m : Memory) : Type 0 where
-    pub rest : layAll i (drop k fs) (stageOf P code m) ≡ layAll i fs begun
+    pub rest : layAll i (drop k fs) (stageOf P code m) ≡ layAll i fs begunStage
     pub room : roomOf m ≡ roomOf m₀
     pub placed : code ≡ 0 → Placed P (cells (i .grid)) fs
     pub concluded : Concluded i code m
 
   -- it begins
-  pub at-first : (code : ℕ) (m : Memory) → roomOf m ≡ roomOf m₀ → stageOf P code m ≡ begun → Going 0 code m
+  pub at-first : (code : ℕ) (m : Memory) → roomOf m ≡ roomOf m₀ → stageOf P code m ≡ begunStage → Going 0 code m
   at-first code m e h = record {
     rest = ap (layAll i fs) h;
     room = e;
@@ -140,14 +140,14 @@ module _ (i : Given) (fs : List Forbid) (m₀ : Memory) where
       }
 
   -- none is left, or a code that is not 0 ends it: the call stands where all forbids lead
-  pub at-last : (k code : ℕ) (m : Memory) → Going k code m → length fs ≤ k → stageOf P code m ≡ layAll i fs begun
+  pub at-last : (k code : ℕ) (m : Memory) → Going k code m → length fs ≤ k → stageOf P code m ≡ layAll i fs begunStage
   at-last k code m g l = sym (ap (λ (gs : List Forbid). layAll i gs (stageOf P code m)) (drop-of-length-le fs l) ∙ laying-done i (stageOf P code m)) ∙ g .rest
 
-  pub at-stop : (k code : ℕ) (m : Memory) → Going k code m → (code ≡ 0 → ⊥) → stageOf P code m ≡ layAll i fs begun
+  pub at-stop : (k code : ℕ) (m : Memory) → Going k code m → (code ≡ 0 → ⊥) → stageOf P code m ≡ layAll i fs begunStage
   at-stop k code m g h = sym (laying-stops i (drop k fs) code m h) ∙ g .rest
 
   -- what is concluded from there is what the call comes to
-  pub run-is : (words : List ℕ) (k code : ℕ) (m : Memory) (o : Outcome) → Going k code m → stageOf P code m ≡ layAll i fs begun
+  pub run-is : (words : List ℕ) (k code : ℕ) (m : Memory) (o : Outcome) → Going k code m → stageOf P code m ≡ layAll i fs begunStage
       → o ≡ concluding i words (stageOf P code m) m → o ≡ called i fs words m₀
   run-is words k code m o g h c =
-      c ∙ ap (λ (x : Stage). concluding i words x m) h ∙ concluding-room i words (layAll i fs begun) m₀ m (g .room) ∙ sym (called-stages (length fs) i fs words m₀)
+      c ∙ ap (λ (x : Stage). concluding i words x m) h ∙ concluding-room i words (layAll i fs begunStage) m₀ m (g .room) ∙ sym (called-stages (length fs) i fs words m₀)

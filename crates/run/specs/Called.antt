@@ -52,13 +52,11 @@ pub record Measured (P n : ℕ) (m : Memory) : Type 0 where
   pub floats : length (m .floats) ≡ 2 * n
   pub marks : length (m .marks) ≡ 2 * n + blocks n
 
--- room for what the start of a run writes
+-- what the start of a run takes: a cell or more, and those lengths of what it writes, whatever is pending
 pub record Opened (P n : ℕ) (domains counts : List ℕ) (floats : List Float) (marks : List ℕ) : Type 0 where
   pub some : 1 ≤ n
-  pub words : length domains ≡ n
-  pub supports : length counts ≡ n * P * 4
-  pub values : length floats ≡ 2 * n
-  pub notes : length marks ≡ 2 * n + blocks n
+  pub pending : List ℕ
+  pub measured : Measured P n (memory domains counts pending floats marks)
 
 -- ---- refusals
 

@@ -1,24 +1,25 @@
--- The course of a run: the states that it reaches, by how many choices and with how many words used, what was asked to go until then, and the state
--- where it ends.
+-- The course of a run: the states that it reaches, by how many choices and with how many words used, what was asked to go until then, all its states
+-- in order, and the state where it ends.
 -- Follows docs/RULES.md, "Run". Assumes nothing.
+use mathlib.Core.Bool.{Bool}
 use mathlib.Core.List.{List, [], _∷_, _++_, List·Memᴰ}
 use mathlib.Core.Logic.{_↔_}
 use mathlib.Core.Option.{Option, none, some}
 use mathlib.Core.Path.{_≡_}
 use Prim.Native.Nat.{ℕ, zero, suc, _+_, _<_}
-use lib.ListN.{getD}
+use lib.ListN.{length, getD}
 use Rattle.adjacency.specs.Accepted.{Accepted}
-use Rattle.adjacency.specs.Weights.{Weighed, weightSum}
+use Rattle.adjacency.specs.Weights.{Weighed, weightSum, mask}
 use Rattle.grid.specs.Grid.{cells}
 use Rattle.consistency.specs.Domains.{filled}
 use Rattle.consistency.specs.Worklist.{Removal, State}
 use Rattle.consistency.specs.Start.{others}
-use Rattle.consistency.specs.Parts.{lessened}
+use Rattle.consistency.specs.Parts.{removedAll}
 use Rattle.propagation.specs.Beside.{Beside}
 use Rattle.run.specs.declared.Forbid.{Forbid}
-use Rattle.choice.specs.Observer.{Sight}
+use Rattle.choice.specs.Observer.{Sight, valid, noteAt}
 use Rattle.choice.specs.Choice.{Draw, draw, taken}
-use Rattle.run.specs.Run.{Given, begun, asked, laidAll, sighted, Ended, Turn, turn}
+use Rattle.run.specs.Run.{Given, begun, asked, laidAll, notesOf, sighted, Ended, Turn, turn}
 
 -- each forbid names a pattern of P and a cell of n
 abbrev pub Placed : ℕ → ℕ → List Forbid → Type 0
@@ -33,7 +34,7 @@ pub record Lawful (i : Given) (fs : List Forbid) : Type 0 where
 
 -- full domains less what was asked to go
 abbrev pub fullLess : Given → List Removal → List ℕ
-fullLess i us = lessened us (filled (i .table .count) (cells (i .grid)))
+fullLess i us = removedAll us (filled (i .table .count) (cells (i .grid)))
 
 -- all that forbids ask to go
 unfoldable pub wanted : ℕ → List Forbid → List Removal
@@ -87,6 +88,18 @@ module _ (i : Given) (fs : List Forbid) (words : List ℕ) where
     pub state : State Beside
     pub reached : Reached choices (e .used) state
     pub over : turn i words (e .used) state ≡ Turn.over e
+
+-- ---- all states in order: the start, one after each forbid, then one after each choice
+
+module _ (i : Given) (fs : List Forbid) (words : List ℕ) where
+  -- the run is at a state after so many of its forbids, or after all of them and so many choices
+  pub data Visited : ℕ → State Beside → Type 0 where
+    among : (gs hs : List Forbid) → gs ++ hs ≡ fs → Visited (length gs) (laidAll i gs (begun i))
+    after : {k used : ℕ} {s : State Beside} → Reached i fs words k used s → Visited (length fs + k) s
+
+-- the note that cell c has at the state s would count at the state s′
+abbrev pub stillCounts : Given → ℕ → State Beside → State Beside → Bool
+stillCounts i c s s′ = valid (noteAt (notesOf i s) c .count) (getD (s′ .domains) c 0) (mask (i .weights))
 
 -- ---- the last state, computed
 

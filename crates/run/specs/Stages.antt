@@ -3,10 +3,10 @@
 use mathlib.Core.Bool.{cond}
 use mathlib.Core.List.{List, [], _∷_}
 use mathlib.Core.Path.{_≡_}
-use Prim.Native.Nat.{ℕ, zero, suc, _+_, _≤_}
+use Prim.Native.Nat.{ℕ, zero, suc, _+_}
 use lib.Dec.{eqb}
 use lib.ListN.{length, replicate}
-use Rattle.refusals.specs.Refusals.{firstOf, refused}
+use Rattle.refusals.specs.Refusals.{Test, firstOf, refused}
 use Rattle.grid.specs.Grid.{cells, Sized}
 use Rattle.consistency.specs.Worklist.{State}
 use Rattle.propagation.specs.Beside.{Beside, besideIn}
@@ -26,10 +26,14 @@ pub data Stage : Type 0 where
 abbrev pub stateIn : ℕ → Memory → State Beside
 stateIn P m = stateOf P (m .domains) (m .counts) (m .pending) idle (besideIn (length (m .domains)) (m .floats) (m .marks))
 
--- the stage that a code and the lent slices stand for: 0 while the run goes on, 12 after a contradiction, a refusal's number otherwise
+-- the code of a contradiction: the greatest of 32 bits, far above any refusal's number
+abbrev pub contradictionCode : ℕ
+contradictionCode = 4294967295
+
+-- the stage that a code and the lent slices stand for: 0 while the run goes on, that of a contradiction, a refusal's number otherwise
 unfoldable pub stageOf : ℕ → ℕ → Memory → Stage
 stageOf P zero m = standing (stateIn P m)
-stageOf P (suc n) m = cond (eqb (suc n) 12) contradicted (refusedAt (suc n) m)
+stageOf P (suc n) m = cond (eqb (suc n) contradictionCode) contradicted (refusedAt (suc n) m)
 
 -- what the slices must be while the run goes on: of the published lengths, and at the state after some forbids
 pub record Standing (i : Given) (m : Memory) : Type 0 where
@@ -79,7 +83,7 @@ concluding i words (refusedAt n m) r = outcome (refused n) m
 concluding i words contradicted r = finished (ended 3 0 (replicate (length (r .domains)) 0)) r
 concluding i words (standing s) r = finished (collapse i words (cells (i .grid) + 1) 0 s) r
 
--- what the conclusion takes: a code that is 0, 12 or a refusal's number, and, while the run goes on, slices as they must be
+-- what the conclusion takes: a code that is a contradiction's or what some tests come to, and, while the run goes on, slices as they must be
 pub record Concluded (i : Given) (code : ℕ) (m : Memory) : Type 0 where
-  pub few : code ≤ 12
+  pub tested : (code ≡ contradictionCode → ⊥) → (tests : List Test) × (code ≡ firstOf tests)
   pub standing : code ≡ 0 → Standing i m

@@ -10,7 +10,7 @@ ghost use Rattle.grid.specs.Grid.{grid, cells};
 ghost use Rattle.logarithms.specs.Blocks.{blocks, Watched};
 ghost use Rattle.logarithms.specs.Lookups.{Lookups};
 ghost use Rattle.propagation.specs.Beside.{besideIn};
-ghost use Rattle.propagation.specs.Lent.{stateOf, Lent, Room, Roomy, Ground};
+ghost use Rattle.propagation.specs.Lent.{stateOf, Lent, Alongside, Roomy, Ground};
 ghost use Rattle.run.specs.declared.collapse.Step.{Step};
 ghost use Rattle.choice.specs.Choice.{taken};
 ghost use Rattle.run.specs.Run as run;
@@ -78,7 +78,7 @@ fn choose_at(
 ) -> Pile
     requires { ⌜ Lent count (length (now domains)) (now domains) (now counts) (now pending) idle ⌝ }
     requires { ⌜ Ground (table count (now offsets) (now ids)) (grid width height mode) (length (now domains)) ⌝ }
-    requires { ⌜ Room count (length (now domains)) (now weights) (now noise) (now floats) (now marks) × (weighted ≡ mask (now weights)) × Lookups (now weights) (now logs) (now sums) ⌝ }
+    requires { ⌜ Alongside count (length (now domains)) (now weights) (now noise) (now floats) (now marks) × (weighted ≡ mask (now weights)) × Lookups (now weights) (now logs) (now sums) ⌝ }
     requires { ⌜ (cell < length (now domains)) × (0 < weightSum (now weights) (getD (now domains) cell 0)) ⌝ }
     ensures { λ r. ⌜ (stateOf count (now (domains .exit)) (now (counts .exit)) (now (pending .exit)) r (besideIn (length (now (domains .exit))) (now (floats .exit)) (now (marks .exit)))
         ≡ run.chosen (given (table count (now (offsets .entry)) (now (ids .entry))) (now (weights .entry)) (grid width height mode) (now (noise .entry))) cell

@@ -1,5 +1,5 @@
 // The stages of a call, over plain numbers: refused or begun, a forbid laid, concluded. Whoever holds the forbids goes through them in order.
-// Follows docs/RULES.md, "Run" and "Refusals". A code tells where the call stands: 0 while the run goes on, 12 after a contradiction, otherwise a refusal's number.
+// Follows docs/RULES.md, "Run" and "Refusals". A code tells where the call stands: 0 while the run goes on, CONTRADICTION after one, otherwise a refusal's number.
 // Each is lent every slice of the run, read or not, so that whoever holds the forbids lends the same ones each time.
 ghost use mathlib.Core.List.{List};
 ghost use mathlib.Core.Path.{_≡_};
@@ -15,6 +15,9 @@ ghost use Rattle.run.specs.Steps.{asking};
 ghost use Rattle.run.specs.Stages.{stateIn, stageOf, standing, Standing, beginning, layAt, concluding, Concluded};
 use crate::Answer;
 use choice::inner::Observed;
+
+// The code of a contradiction (`contradictionCode`), which no refusal has.
+const CONTRADICTION: u32 = 4294967295;
 
 // Every refusal in order, of which `bad` is that of the forbids; or the run begins.
 pub fn begin(
@@ -76,7 +79,7 @@ pub fn begin(
     0
 }
 
-// A forbid is laid: 0 to go on, 12 for a contradiction.
+// A forbid is laid: 0 to go on, or CONTRADICTION.
 pub fn lay_one(
     cell: u32,
     pattern: u32,
@@ -126,7 +129,7 @@ pub fn lay_one(
         marks,
     );
     if pile.empty {
-        return 12;
+        return CONTRADICTION;
     }
     0
 }
@@ -206,7 +209,7 @@ pub(crate) fn conclude(
             marks,
         );
     }
-    if code == 12 {
+    if code == CONTRADICTION {
         crate::start::finish(true, domains, counts, pending, floats, marks);
         return Answer::Contradiction(0);
     }

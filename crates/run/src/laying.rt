@@ -14,7 +14,7 @@ ghost use Rattle.logarithms.specs.Blocks.{Watched};
 ghost use Rattle.logarithms.specs.Logs.{Logs};
 ghost use Rattle.logarithms.specs.Lookups.{Lookups};
 ghost use Rattle.propagation.specs.Beside.{beside, besideIn, lessened};
-ghost use Rattle.propagation.specs.Lent.{stateOf, Lent, Room, Ground};
+ghost use Rattle.propagation.specs.Lent.{stateOf, Lent, Alongside, Ground};
 ghost use Rattle.run.specs.Run.{asked, laid};
 ghost use Rattle.run.specs.Run.{given};
 ghost use Rattle.run.specs.Steps.{asking, idle};
@@ -170,7 +170,7 @@ pub(crate) fn lay(
 ) -> Pile
     requires { ⌜ Lent count (length (now domains)) (now domains) (now counts) (now pending) idle ⌝ }
     requires { ⌜ Ground (table count (now offsets) (now ids)) (grid width height mode) (length (now domains)) ⌝ }
-    requires { ⌜ Room count (length (now domains)) (now weights) (now noise) (now floats) (now marks) × (weighted ≡ mask (now weights)) × Lookups (now weights) (now logs) (now sums) ⌝ }
+    requires { ⌜ Alongside count (length (now domains)) (now weights) (now noise) (now floats) (now marks) × (weighted ≡ mask (now weights)) × Lookups (now weights) (now logs) (now sums) ⌝ }
     requires { ⌜ (cell < length (now domains)) × (pattern < count) ⌝ }
     ensures { λ r. ⌜ (stateOf count (now (domains .exit)) (now (counts .exit)) (now (pending .exit)) r (besideIn (length (now (domains .exit))) (now (floats .exit)) (now (marks .exit)))
         ≡ laid (given (table count (now (offsets .entry)) (now (ids .entry))) (now (weights .entry)) (grid width height mode) (now (noise .entry))) (asking cell pattern keep)

@@ -88,7 +88,7 @@ pub fn run_numbers(
 {
     let bad = crate::check::judge_all(forbids, count, width, height);
     let lent = crate::check::records_in(forbids);
-    let begun = crate::inner::begin(
+    let code = crate::inner::begin(
         bad,
         lent,
         count,
@@ -107,7 +107,7 @@ pub fn run_numbers(
         marks,
     );
     let laid = lay_numbers(
-        begun,
+        code,
         forbids,
         count,
         width,

@@ -5,7 +5,7 @@ use mathlib.Core.List.{List, _∷_, _++_}
 use mathlib.Core.Path.{_≡_, refl, sym, ap, _∙_, subst}
 use Prim.Native.Nat.{ℕ, zero, suc, _+_, _≤_, _<_}
 use native.Mathlib.Omega.{arith}
-use lib.Dec.{ltb, eqb}
+use lib.Dec.{eqb}
 use lib.ListN.{length, take, drop, length-append}
 use lib.Seq.{take-append-seam}
 use Rattle.records.specs.Numbers.{u16}
@@ -16,13 +16,12 @@ use Rattle.grid.specs.Grid.{cells}
 use Rattle.layout.specs.Sheet.{Sheet}
 use Rattle.layout.specs.Reading.{sheetIn}
 use Rattle.layout.specs.Tables.{tableOf}
-use Rattle.refusals.specs.Refusals.{number}
 use Rattle.sheet.specs.Called.{formTest, sheetTests}
 use Rattle.sheet.specs.Result.{resultOf}
-use Rattle.bounded.specs.Laid.{Told, tooLarge, refused, answer, onward, sheetRefusal, longRefusal, toldRefusal, large, takenAt, takenOf, ranOf, laidOf, Finish, finish, Outcome, outcome, laidTold, laidAt}
+use Rattle.bounded.specs.Laid.{Told, tooLarge, refused, answer, onward, sheetRefusal, large, takenAt, takenOf, ranOf, laidOf, Finish, finish, Outcome, outcome, laidTold, laidAt}
 use Rattle.bounded.specs.declared.inner.Laid.{Laid}
 use Rattle.stream.specs.Cases.{answerOf}
-use Rattle.refusals.proofs.RefusalLaws.{number-most, first-most}
+use Rattle.refusals.proofs.RefusalLaws.{first-most}
 use Rattle.records.proofs.NumberLaws.{length-u16}
 use Rattle.records.proofs.LayingLaws.{pen-place}
 use Rattle.bounded.specs.declared.inner.Laid.the-variants as ends
@@ -47,17 +46,9 @@ most-own b =
     let s = sheetIn b in
     first-most (formTest b ∷ sheetTests false (tableOf s) (s .weights) (s .grid) (s .forbids))
 
-most-told : (b : List ℕ) → toldRefusal b ≤ 11
-unfolding toldRefusal
-most-told b = go (ltb 90272 (length b))
-  where
-    go : (v : Bool) → cond v (number (longRefusal b)) (sheetRefusal b) ≤ 11
-    go true = number-most (longRefusal b)
-    go false = most-own b
-
 most-taken : (b : List ℕ) → numberIn (takenOf b) ≤ 11
 unfolding numberIn takenOf takenAt
-most-taken b = at (toldRefusal b) (sheetIn b) (most-told b)
+most-taken b = at (sheetRefusal b) (sheetIn b) (most-own b)
   where
     size : (v : Bool) (s : Sheet) → numberIn (cond v tooLarge (answer s)) ≤ 11
     size true s = omega arith
@@ -155,10 +146,10 @@ module _ (b noise words d o d₀ o₀ : List ℕ) (r : Laid) (e : outcome (laidT
   unfolding laidTold answerOf
   answer-large is = ap answerOf (told-large (laidOf b noise words) d o d₀ o₀ (came ends.TooLarge is))
 
--- a number that is written is the answer
-pub wrote-number : (x new out : List ℕ) (place k n : ℕ) → x ≡ u16 n → k ≡ n → pen new place ≡ laid (u16 k) (pen out 0)
-    → (pen new place ≡ laid x (pen out 0)) × (place ≤ 8204)
-wrote-number x new out place k n is same e = (
-  e ∙ ap (λ (l : List ℕ). laid l (pen out 0)) (ap u16 same ∙ sym is),
-  omega (arith, pen-place (u16 k) out 0 e, length-u16 k),
-)
+-- a number that is written has two bytes, and is the answer
+module _ (new out : List ℕ) (place k : ℕ) (e : pen new place ≡ laid (u16 k) (pen out 0)) where
+  pub wrote-short : place ≤ 8204
+  wrote-short = omega (arith, pen-place (u16 k) out 0 e, length-u16 k)
+
+  pub wrote-number : {x : List ℕ} {n : ℕ} → x ≡ u16 n → k ≡ n → pen new place ≡ laid x (pen out 0)
+  wrote-number is same = e ∙ ap (λ (l : List ℕ). laid l (pen out 0)) (ap u16 same ∙ sym is)

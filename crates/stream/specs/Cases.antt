@@ -49,13 +49,12 @@ answerOf (answer e) = u16 0 ++ resultOf e
 
 -- ---- what is kept
 
--- 90,273 bytes of a sheet, 1,025 noise words and 1,024 words
+-- 1,025 noise words and 1,024 words; what is kept of a sheet, `Held` says (bounded/specs/Laid.antt)
 unfoldable pub keptOf : Case → Case
-keptOf c = parts (take 90273 (c .sheet)) (take 4100 (c .noise)) (take 4096 (c .words))
+keptOf c = parts (c .sheet) (take 4100 (c .noise)) (take 4096 (c .words))
 
 -- room for just that
-pub record Rooms (sheet noise words : List ℕ) : Type 0 where
-  pub sheet-long : length sheet ≡ 90273
+pub record Rooms (noise words : List ℕ) : Type 0 where
   pub noise-long : length noise ≡ 4100
   pub words-long : length words ≡ 4096
 

@@ -13,7 +13,12 @@ ghost use Rattle.trace_c.specs.Going.{Going};
 use choice::inner::Observed;
 use run::Choice;
 
-// A choice, and where it leaves the run: 0 to go on, 12 after a contradiction, 14 where there was nothing to choose.
+// Two codes beside those of the run's stages: a forbid is not of the grid; there was nothing to choose.
+const OUTSIDE: u32 = 4294967294;
+
+const NOTHING: u32 = 4294967293;
+
+// A choice, and the code of where it leaves the run: 0 to go on.
 struct Made {
     code: u32,
     cell: u32,
@@ -29,7 +34,7 @@ fn narrow(x: usize) -> u32 {
     4294967295
 }
 
-// Lays a forbid: 0 to go on, 12 after a contradiction, 13 where it is not of the grid.
+// Lays a forbid: 0 to go on, OUTSIDE where it is not of the grid, otherwise a contradiction's code.
 fn lay(
     cell: u32,
     pattern: u32,
@@ -53,10 +58,10 @@ fn lay(
     ensures { λ r. ⌜ Going (given (table count (now (offsets .entry)) (now (ids .entry))) (now (weights .entry)) (grid width height mode) (now (noise .entry))) r (memory (now (domains .exit)) (now (counts .exit)) (now (pending .exit)) (now (floats .exit)) (now (marks .exit))) ⌝ }
 {
     if domains.len() <= cell as usize {
-        return 13;
+        return OUTSIDE;
     }
     if count <= pattern as usize {
-        return 13;
+        return OUTSIDE;
     }
     run::inner::lay_one(
         cell,
@@ -244,7 +249,7 @@ fn choose(
         marks,
     ) {
         Observed::Nothing => Made {
-            code: 14,
+            code: NOTHING,
             cell: 0,
             pattern: 0,
             entropy: 0.0,
@@ -327,7 +332,7 @@ fn choose_all(
             floats,
             marks,
         );
-        if made.code == 14 {
+        if made.code == NOTHING {
             return k;
         }
         places[2 * k] = made.cell;

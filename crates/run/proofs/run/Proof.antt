@@ -60,7 +60,7 @@ use Rattle.run.specs.Called.{Memory as Lent, memory, roomOf, Outcome, ou
 use Rattle.run.specs.Steps.{asking}
 use Rattle.run.specs.Stages.{stateIn, stageOf, Standing, beginning, layAt, layAll, concluding, Concluded}
 use Rattle.run.proofs.Walk.{Spot, spot, Shared, Mutable, refS, valS, refM, valM, ownsS, toksS, chain, Lists, Names, Longs, Rooms, toksM, ownsM, Hold, Lend, Away, lends, came-back, envAt, alloc-all, filled, free-filled, var, then}
-use Rattle.run.proofs.WalkLaws.{nonzero, is-zero, noForbid, lentAt, First, refusal, begun, Going, at-first, at-next, at-record, at-last, at-stop, run-is}
+use Rattle.run.proofs.WalkLaws.{nonzero, is-zero, noForbid, lentAt, First, refusal, begunStage, Going, at-first, at-next, at-record, at-last, at-stop, run-is}
 use Rattle.run.proofs.Forbid as T
 use Rattle.run.proofs.Forbid.Laws as T′
 use Rattle.run.proofs.Answer as Ans
@@ -291,7 +291,7 @@ module _ {M : Type 1} (𝓤 : URA M) (H : Heap 𝓤) (A : Atoms 𝓤) (W : Given
       Looked t = Cx (t .1) none (holds (vint w32 (t .2))) (holds (vint w64 (t .0))) (holds (vint w64 n)) (holds (vbool (not (eqb (t .2) 0))))
 
       -- `conclude` is called, and the function returns
-      ends : (t : Upto) → stageOf count (t .2) (held (t .1)) ≡ layAll e fs (begun e fs m₀) → Sq W (At t) (runs C Λ (En l) code-mir.t-16 (atRet (En l) Post))
+      ends : (t : Upto) → stageOf count (t .2) (held (t .1)) ≡ layAll e fs (begunStage e fs m₀) → Sq W (At t) (runs C Λ (En l) code-mir.t-16 (atRet (En l) Post))
       ends t h =
           assigns ! (addr ! (from ! (fld ! refl (hop ! (look-in ! 25 (sub ! 0 refl (whole !))) (stop !))))) (from ! (stop !)) (init ! 93 refl (tt, tt)) $
           assigns ! (agg ! (and-then ! (var ! 93 refl) (and-then ! (load ! (from ! (fld ! refl (stop !))) (look-in ! 25 (sub ! 1 refl (whole !)))) (no-more !)))) (from ! (stop !)) (init ! 95 refl (tt, (tt, (record { fits = room .0 .0 }, tt)))) $

@@ -9,7 +9,7 @@ use Rattle.grid.specs.Grid.{grid}
 use Rattle.consistency.specs.Worklist.{propagated}
 use Rattle.consistency.specs.Safe.{total}
 use Rattle.propagation.specs.Watching.{watching}
-use Rattle.propagation.proofs.LentLaws.{pending-length, room-after, memory, piled, stateIn, Going, going-start, going-on}
+use Rattle.propagation.proofs.LentLaws.{pending-length, alongside-after, memory, piled, stateIn, Going, going-start, going-on}
 use Rattle.propagation.proofs.PropagatorLaws.{unfinished-some, turn-safe, turn-less, propagated-turn, propagated-end}
 use Rattle.propagation.proofs.WatchedLaws.{watched-turn}
 use Rattle.propagation.proofs.WatchingLaws.{watched-unmarked, viewed-propagated, watched-propagated}
@@ -36,16 +36,16 @@ unmark-requires c κs = omega (arith, c .before .before .before .before .before 
 loop-holds : tie.Need-loop-holds Inv-loop μ-loop
 loop-holds c =
     let cleared = c .before .before in
-    let (lent, (_, (room, _, _))) = cleared .before .before .before .before .before .before .before .before .before .before .before .before .before .pre in
-    (refl, going-start lent (room-after room refl (cleared .unmark .kept .1 .0)))
+    let (lent, (_, (alongside, _, _))) = cleared .before .before .before .before .before .before .before .before .before .before .before .before .before .pre in
+    (refl, going-start lent (alongside-after alongside refl (cleared .unmark .kept .1 .0)))
 
 pop-requires : tie.Need-pop-requires Inv-loop μ-loop
 pop-requires c κs =
     let test = c .before .before .before .before .before in
     let head = test .before in
-    let (lent, (ground, (room, masked, lookups))) = start head .pre in
+    let (lent, (ground, (alongside, masked, lookups))) = start head .pre in
     let going = head .loop .inv .1 in
-    (going .lent, ((ground, unfinished-some (piled (head .loop .top) (head .loop .empty)) (test .loop-test .taken)), (going .room, masked, lookups)))
+    (going .lent, ((ground, unfinished-some (piled (head .loop .top) (head .loop .empty)) (test .loop-test .taken)), (going .alongside, masked, lookups)))
 
 loop-less : tie.Need-loop-less Inv-loop μ-loop
 loop-less c =
@@ -93,14 +93,14 @@ returns : tie.Need-returns Inv-loop μ-loop
 returns c =
     let head = c .before in
     let s = start head in
-    let (lent, (ground, (room, _, _))) = s .pre in
+    let (lent, (ground, (alongside, _, _))) = s .pre in
     let cleared = head .before .before .before .unmark in
     let (left, going) = head .loop .inv in
     let end = sym (propagated-end ground _ (going .lent) _ (c .loop-test .left)) ∙ left in
     let (front, back) = cleared .ensures in (
       viewed-propagated ground _ _ lent _ _ end (front (s .args .floats .now)),
-      watched-turn (watched-unmarked _ _ _ (cleared .kept .1 .0) (omega (arith, room .marked)) front back _ _)
-          (watched-propagated ground _ _ lent _ _ end (omega (arith, room .marked, cleared .kept .1 .0))),
+      watched-turn (watched-unmarked _ _ _ (cleared .kept .1 .0) (omega (arith, alongside .marked)) front back _ _)
+          (watched-propagated ground _ _ lent _ _ end (omega (arith, alongside .marked, cleared .kept .1 .0))),
     )
 
 pub propagate-spec : {M : Type 1} → statement M

@@ -32,8 +32,8 @@ some c =
 summed : (c : tie.After-sum-of) → let a = start (c .before) .args in c .sum-of .result ≡ weightSum (a .weights .now) (a .word)
 summed c =
     let s = start (c .before) in
-    let (room, _, lookups) = s .pre .0 in
-    c .sum-of .ensures (s .args .weights .now) (lookups .sums-lent) (rw (room .weighed .one-each) (s .pre .1 .3))
+    let (alongside, _, lookups) = s .pre .0 in
+    c .sum-of .ensures (s .args .weights .now) (lookups .sums-lent) (rw (alongside .weighed .one-each) (s .pre .1 .3))
 
 -- what is counted
 counted : (c : tie.After-count-ones) → let a = start (c .before .before .before .before .before) .args in c .count-ones .result ≡ weightedIn (a .weights .now) (a .word)

@@ -12,7 +12,7 @@ use lib.Seq.{set-getD}
 use mir.Val.{boolByte}
 use borrow.Author.Needs.{needs}
 use borrow.Author.Tests.{ltb-true}
-use Rattle.propagation.specs.Supports.{taken, takenAt}
+use Rattle.propagation.specs.Supports.{visit, visitAt}
 use Rattle.propagation.proofs.num_ways.try_decrement.Statement.{statement}
 use Rattle.propagation.proofs.num_ways.try_decrement.Tie as tie
 
@@ -44,10 +44,10 @@ same-length : tie.Need-same-length
 same-length c = search needs
 
 returns : tie.Need-returns
-unfolding takenAt
+unfolding visitAt
 returns c =
     let a = c .before .args in
-    ap (taken _) (written (a .counts .now) (a .at) (ltb 1 (getD (a .counts .now) (a .at) 0)))
+    ap (visit _) (written (a .counts .now) (a .at) (ltb 1 (getD (a .counts .now) (a .at) 0)))
 
 pub try-decrement-spec : {M : Type 1} → statement M
 try-decrement-spec =

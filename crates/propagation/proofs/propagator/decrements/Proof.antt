@@ -64,9 +64,9 @@ next-loss-requires c κs =
 loop-holds : tie.Need-loop-holds Inv-loop μ-loop
 loop-holds c =
     let walk = c .before .before in
-    let (lent, ((room, _, _), (hc, hd, below))) = entry walk .pre in
+    let (lent, ((alongside, _, _), (hc, hd, below))) = entry walk .pre in
     let v = visited-from _ _ _ _ _ _ {X = Unit {0}} (λ u D x. x) tt hc hd _ _ 0 below lent (walk .next-loss .ensures) in
-    (refl, going-start (v .lent) room, v .losing)
+    (refl, going-start (v .lent) alongside, v .losing)
 
 shared-slice-read-wide : tie.Need-shared-slice-read-wide Inv-loop μ-loop
 shared-slice-read-wide c = omega arith
@@ -78,9 +78,9 @@ remove-and-propose-requires : tie.Need-remove-and-propose-requires Inv-loop μ-l
 remove-and-propose-requires c κs =
     let wide = c .before .before .before .before .before in
     let head = wide .before .before .before in
-    let (lent, ((room, masked, lookups), (hc, hd, below))) = start head .pre in
+    let (lent, ((alongside, masked, lookups), (hc, hd, below))) = start head .pre in
     let (_, going, _) = head .loop .inv in
-    (going .lent, ((going .room, masked, lookups), (hc, read wide, last-possible (going .lent) hc hd (read wide) (one wide))))
+    (going .lent, ((going .alongside, masked, lookups), (hc, read wide, last-possible (going .lent) hc hd (read wide) (one wide))))
 
 add-next-loss : tie.Need-add-next-loss Inv-loop μ-loop
 add-next-loss c =

@@ -2,7 +2,7 @@
 -- Assumes nothing.
 use native.Mathlib.Omega.{arith}
 use borrow.Author.Needs.{needs}
-use Rattle.propagation.proofs.LentLaws.{pile-within, pile-small, top-cell, top-pattern, lent-lowered}
+use Rattle.propagation.proofs.LentLaws.{pile-within, pile-small, top-cell, top-pattern, lent-belowTop}
 use Rattle.propagation.proofs.PropagatorLaws.{spread-slot}
 use Rattle.propagation.proofs.propagator.pop.Statement.{statement}
 use Rattle.propagation.proofs.propagator.pop.Tie as tie
@@ -30,8 +30,8 @@ rem-spread c = search needs
 spread-requires : tie.Need-spread-requires
 spread-requires c κs =
     let read = c .before .before .before .before .before in
-    let (lent, ((ground, some), room)) = read .before .before .before .before .before .before .before .before .before .before .before .before .before .before .pre in
-    (lent-lowered lent some, ((ground, rw (read .slot .ensures) (top-cell lent some), rw (read .slot .ensures) (top-pattern lent some)), room))
+    let (lent, ((ground, some), alongside)) = read .before .before .before .before .before .before .before .before .before .before .before .before .before .before .pre in
+    (lent-belowTop lent some, ((ground, rw (read .slot .ensures) (top-cell lent some), rw (read .slot .ensures) (top-pattern lent some)), alongside))
 
 same-length : tie.Need-same-length
 same-length c = search needs

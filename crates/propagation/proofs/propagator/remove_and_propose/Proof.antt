@@ -3,7 +3,7 @@
 use mathlib.Core.Path.{refl}
 use native.Mathlib.Omega.{arith}
 use borrow.Author.Needs.{needs}
-use Rattle.propagation.proofs.LentLaws.{room-after}
+use Rattle.propagation.proofs.LentLaws.{alongside-after}
 use Rattle.propagation.proofs.WatchingLaws.{remove-proposed}
 use Rattle.propagation.proofs.PropagatorLaws.{fit-remove}
 use Rattle.propagation.proofs.propagator.remove_and_propose.Statement.{statement}
@@ -12,8 +12,8 @@ use Rattle.propagation.proofs.propagator.remove_and_propose.Tie as tie
 remove-requires : tie.Need-remove-requires
 remove-requires c κs =
     let s = c .before .before .before .before .before .before .before .before .before .before .before .before .before in
-    let (lent, ((room, _, lookups), which)) = s .pre in
-    rw (lent .safe .fit .sized) (lent, ((room .weighed, λ p h. room .roomy p h .valued, lookups .logs-lent), which))
+    let (lent, ((alongside, _, lookups), which)) = s .pre in
+    rw (lent .safe .fit .sized) (lent, ((alongside .weighed, λ p h. alongside .roomy p h .valued, lookups .logs-lent), which))
 
 mul-propose : tie.Need-mul-propose
 mul-propose c = search needs
@@ -25,9 +25,9 @@ propose-requires : tie.Need-propose-requires
 propose-requires c κs =
     let removed = c .before .before .before .before .before .before .before .before .before .before .before in
     let s = removed .before .before .before .before .before .before .before .before .before .before .before .before .before .before in
-    let (lent, ((room, masked, lookups), (hc, hp, h))) = s .pre in
+    let (lent, ((alongside, masked, lookups), (hc, hp, h))) = s .pre in
     let fit = fit-remove lent _ _ hc hp h (removed .remove .ensures (s .args .marks .now)) in
-    ((room-after room (removed .remove .kept .1 .1 .1 .1 .1 .1 .1 .1 .0) refl, masked, lookups), (lent .patterns, hc, hp, fit .words (s .args .cell)))
+    ((alongside-after alongside (removed .remove .kept .1 .1 .1 .1 .1 .1 .1 .1 .0) refl, masked, lookups), (lent .patterns, hc, hp, fit .words (s .args .cell)))
 
 touch-requires : tie.Need-touch-requires
 touch-requires c κs =

@@ -37,16 +37,16 @@ below c = omega (arith, c .loop-test .taken)
 
 loop-holds : tie.Need-loop-holds Inv-loop μ-loop
 loop-holds c =
-    let (lent, (_, (room, _, _))) = c .before .before .before .before .before .before .before .before .before .before .before .pre in
-    (refl, going-start lent room)
+    let (lent, (_, (alongside, _, _))) = c .before .before .before .before .before .before .before .before .before .before .before .pre in
+    (refl, going-start lent alongside)
 
 spread-in-requires : tie.Need-spread-in-requires Inv-loop μ-loop
 spread-in-requires c κs =
     let test = c .before .before .before .before .before in
     let head = test .before in
-    let (lent, ((ground, hc, hp), (room, masked, lookups))) = start head .pre in
+    let (lent, ((ground, hc, hp), (alongside, masked, lookups))) = start head .pre in
     let going = head .loop .inv .1 in
-    (going .lent, ((ground, hc, hp, below test), (going .room, masked, lookups)))
+    (going .lent, ((ground, hc, hp, below test), (going .alongside, masked, lookups)))
 
 add-d : tie.Need-add-d Inv-loop μ-loop
 add-d c =
@@ -63,7 +63,7 @@ loop-again c =
     let called = c .before .before .before .before .before .before .before .before .before .before in
     let test = called .before .before .before .before .before .before in
     let head = test .before in
-    let (lent, ((ground, hc, hp), room)) = start head .pre in
+    let (lent, ((ground, hc, hp), alongside)) = start head .pre in
     let (left, going) = head .loop .inv in
     let k = called .spread-in .kept .1 .1 .1 .1 .1 .1 .1 .1 .1 .1 .1 .1 .1 .1 .1 in (
       steps-turn _ _ (below test) (called .spread-in .ensures) left,

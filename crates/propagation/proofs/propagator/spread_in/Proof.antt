@@ -19,8 +19,8 @@ decrements-requires c κs =
     let list = c .before .before .before .before .before in
     let near = list .before .before in
     let found = near .before .before in
-    let (lent, ((ground, hc, hp, hd), room)) = found .before .before .before .before .before .before .before .before .before .before .before .before .pre in
-    (lent, (room, (cell-inside ground hc hd (found .neighbour-of .ensures) (near .near .given .1), hd, rw (list .list-of .ensures) (ground .accepted .listed .below _ _ hp hd))))
+    let (lent, ((ground, hc, hp, hd), alongside)) = found .before .before .before .before .before .before .before .before .before .before .before .before .pre in
+    (lent, (alongside, (cell-inside ground hc hd (found .neighbour-of .ensures) (near .near .given .1), hd, rw (list .list-of .ensures) (ground .accepted .listed .below _ _ hp hd))))
 
 enum-told : tie.Need-enum-told
 enum-told c = search needs

@@ -8,7 +8,7 @@ use borrow.Author.Needs.{needs}
 use Rattle.adjacency.specs.Tables.{table}
 use Rattle.grid.specs.Grid.{grid}
 use Rattle.consistency.specs.Worklist.{State}
-use Rattle.propagation.proofs.SettleLaws.{lent-begun, take-zeros, room-none, mask-none, lookups-none, reduce-is}
+use Rattle.propagation.proofs.SettleLaws.{lent-given, take-zeros, alongside-none, mask-none, lookups-none, reduce-is}
 use Rattle.propagation.proofs.settle.reduce.Statement.{statement}
 use Rattle.propagation.proofs.settle.reduce.Tie as tie
 
@@ -49,8 +49,8 @@ propagate-requires c κs =
     let t = table (s .args .count) (s .args .offsets .now) (s .args .ids .now) in
     let g = grid (s .args .width) (s .args .height) (s .args .mode) in
     let zeros = take-zeros (s .args .count) 64 (s .pre .1 .patterns) in (
-      lent-begun t g (s .args .domains .now) (s .pre .0) (s .pre .1 .fit) (s .pre .1) (began .begin .kept .1 .1 .1 .1 .1 .0) (began .begin .ensures),
-      (s .pre .0, (rw zeros (room-none (s .args .count) _ _ _ _ (omega (arith, s .pre .1 .cells, length-replicate {A = ℕ} 2080 0))), rw zeros (sym (mask-none (s .args .count))), rw zeros (lookups-none (s .args .count) (s .pre .1 .patterns) (made .logs .ensures)))),
+      lent-given t g (s .args .domains .now) (s .pre .0) (s .pre .1 .fit) (s .pre .1) (began .begin .kept .1 .1 .1 .1 .1 .0) (began .begin .ensures),
+      (s .pre .0, (rw zeros (alongside-none (s .args .count) _ _ _ _ (omega (arith, s .pre .1 .cells, length-replicate {A = ℕ} 2080 0))), rw zeros (sym (mask-none (s .args .count))), rw zeros (lookups-none (s .args .count) (s .pre .1 .patterns) (made .logs .ensures)))),
     )
 
 same-length : tie.Need-same-length

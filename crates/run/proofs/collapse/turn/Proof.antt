@@ -14,7 +14,7 @@ use Rattle.propagation.specs.Lent.{stateOf}
 use Rattle.choice.specs.Observer.{notesIn, observe}
 use Rattle.run.specs.Run.{Given, given}
 use Rattle.run.specs.Steps.{idle}
-use Rattle.run.proofs.StepLaws.{room-at, cell-inside, cell-weight, turn-still, turn-paused, turn-from}
+use Rattle.run.proofs.StepLaws.{alongside-at, cell-inside, cell-weight, turn-still, turn-paused, turn-from}
 use Rattle.run.proofs.WatchLaws.{observed-cut, observed-found, chosen-found, observed-of}
 use Rattle.run.proofs.collapse.turn.Statement.{statement}
 use Rattle.run.proofs.collapse.turn.Tie as tie
@@ -64,7 +64,7 @@ choose-at-requires c κs =
       (
         ground,
         (
-          (room-at {marks′ = saw .observe .last .1 .1 .1 .1 .0} {floats′ = s .args .floats .now} refl refl (saw .observe .kept .1 .1 .1 .1 .0) (record { weighed = weighed; marked = roomy .marked; roomy = λ p h. roomy }), masked, lookups),
+          (alongside-at {marks′ = saw .observe .last .1 .1 .1 .1 .0} {floats′ = s .args .floats .now} refl refl (saw .observe .kept .1 .1 .1 .1 .0) (record { weighed = weighed; marked = roomy .marked; roomy = λ p h. roomy }), masked, lookups),
           (cell-inside (input s) (s .args .words .now) (s .args .used) (entry s) (observed saw) (ground .all) masked is, cell-weight (input s) (s .args .words .now) (s .args .used) (entry s) (observed saw) (ground .all) masked is),
         ),
       ),

@@ -1,10 +1,12 @@
 -- `run::inner::conclude` meets its contract: the turns, a contradiction, or a refusal that changes nothing.
 -- Assumes nothing.
+use native.Mathlib.Omega.{arith}
 use borrow.Author.Needs.{needs}
 use Rattle.adjacency.specs.Tables.{table}
 use Rattle.grid.specs.Grid.{grid}
 use Rattle.run.specs.Run.{Given, given}
 use Rattle.run.specs.Called.{Memory, memory, answerTold, outcome}
+use Rattle.refusals.proofs.RefusalLaws.{first-most}
 use Rattle.run.proofs.StandingLaws.{conclude-standing, conclude-contradicted, conclude-refused}
 use Rattle.run.proofs.inner.conclude.Statement.{statement}
 use Rattle.run.proofs.inner.conclude.Tie as tie
@@ -69,7 +71,10 @@ returns-2 c =
     {m′ = memory (l .0) (l .1 .0) (l .1 .1 .0) (l .1 .1 .1 .0) (l .1 .1 .1 .1 .0)} (called .ensures)
 
 refusal-requires : tie.Need-refusal-requires
-refusal-requires c κs = search needs
+refusal-requires c κs =
+    let s = c .before .before .before .before .before .before .before .before .before .before .before .before in
+    let (tests, e) = s .pre .tested (c .if2 .left) in
+    (omega (arith, c .before .if1 .left), omega (arith, e, first-most tests))
 
 returns-3 : tie.Need-returns-3
 returns-3 c =

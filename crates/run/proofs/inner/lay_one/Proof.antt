@@ -4,7 +4,7 @@ use borrow.Author.Needs.{needs}
 use Rattle.run.specs.Called.{memory}
 use Rattle.run.specs.Steps.{asking}
 use Rattle.run.proofs.StepLaws.{four-few, sums-front, lookups-laid}
-use Rattle.run.proofs.StandingLaws.{standing-lent, standing-ground, standing-room, lay-contradicted, lay-standing}
+use Rattle.run.proofs.StandingLaws.{standing-lent, standing-ground, standing-alongside, lay-contradicted, lay-standing}
 use Rattle.run.proofs.inner.lay_one.Statement.{statement}
 use Rattle.run.proofs.inner.lay_one.Tie as tie
 
@@ -38,7 +38,7 @@ slice-aggregate-lay-2 c =
 lay-requires : tie.Need-lay-requires
 lay-requires c κs =
     let (S, hc, hp) = c .before .before .before .before .before .before .before .before .before .before .before .before .before .before .before .before .before .before .before .before .before .pre in
-    (standing-lent S, (standing-ground S, ((standing-room S, c .before .before .before .before .before .before .before .before .weighted-mask .ensures, lookups-laid (c .before .before .before .before .before .before .before .before .before .four-sums .result) (S .laid .lawful .weighed) (c .before .before .before .before .before .before .before .before .before .before .logs .ensures) (c .before .before .before .before .before .before .before .before .before .four-sums .ensures) (c .before .before .before .before .before .before .sixteens .ensures)), (hc, hp))))
+    (standing-lent S, (standing-ground S, ((standing-alongside S, c .before .before .before .before .before .before .before .before .weighted-mask .ensures, lookups-laid (c .before .before .before .before .before .before .before .before .before .four-sums .result) (S .laid .lawful .weighed) (c .before .before .before .before .before .before .before .before .before .before .logs .ensures) (c .before .before .before .before .before .before .before .before .before .four-sums .ensures) (c .before .before .before .before .before .before .sixteens .ensures)), (hc, hp))))
 
 same-length : tie.Need-same-length
 same-length c = c .before .before .before .before .before .before .before .before .before .before .before .lay .kept .1 .1 .1 .1 .1 .1 .1 .1 .1 .1 .1 .1 .1 .1 .0

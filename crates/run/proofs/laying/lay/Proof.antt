@@ -8,7 +8,7 @@ use Rattle.grid.specs.Grid.{grid}
 use Rattle.run.specs.declared.Forbid.{Forbid}
 use Rattle.run.specs.Run.{Given, given}
 use Rattle.run.specs.Steps.{asking}
-use Rattle.run.proofs.StepLaws.{struck-lent, ground-at, room-at}
+use Rattle.run.proofs.StepLaws.{struck-lent, ground-at, alongside-at}
 use Rattle.run.proofs.WatchLaws.{block-below, laid-in, laid-watched}
 use Rattle.run.proofs.laying.lay.Statement.{statement}
 use Rattle.run.proofs.laying.lay.Tie as tie
@@ -38,7 +38,7 @@ propagate-requires c κs =
     let (lent, (ground, ((room, masked, lookups), (hc, hp)))) = s .pre in
     let k = struck .strike .kept .1 .1 .1 .1 .1 .1 in (
       struck-lent lent hc hp _ _ _ (struck .strike .ensures (s .args .marks .now)) (k .0) (k .1 .1 .0),
-      (ground-at (k .0) ground, (room-at {marks′ = touched .last .1 .1 .0} {floats′ = struck .strike .last .1 .1 .1 .1 .1 .1 .1 .1 .1 .0} (k .0) (k .1 .1 .1 .0) (touched .kept .1 .1 .0) room, masked, lookups)),
+      (ground-at (k .0) ground, (alongside-at {marks′ = touched .last .1 .1 .0} {floats′ = struck .strike .last .1 .1 .1 .1 .1 .1 .1 .1 .1 .0} (k .0) (k .1 .1 .1 .0) (touched .kept .1 .1 .0) room, masked, lookups)),
     )
 
 same-length : tie.Need-same-length

@@ -18,7 +18,7 @@ start-counts-requires : tie.Need-start-counts-requires
 start-counts-requires c κs =
     let s = c .before .before .before .before .before .before .before .before .before .before .before .before .before in
     let (accepted, _, _) = s .pre .0 in
-    (accepted, omega (arith, s .pre .1 .supports, mul-le-mul-right (s .args .count) (s .pre .1 .some)))
+    (accepted, omega (arith, s .pre .1 .measured .counts, mul-le-mul-right (s .args .count) (s .pre .1 .some)))
 
 begin-floats-requires : tie.Need-begin-floats-requires
 begin-floats-requires c κs = search needs
@@ -46,8 +46,8 @@ returns c =
     let s = c .before .before .before .before .before .before .before .before .before .before .before .before .before .before .before .before .before .before .before .before .before .before .before .before .before in
     let a = s .args in
     begun-is (table (a .count) (a .offsets .now) (a .ids .now)) (a .weights .now) (a .cells) (c .before .before .before .before .before .before .before .before .before .before .before .before .before .before .before .before .before .full-word .result) (c .before .before .before .before .first-count .result) (a .domains .now)
-    (c .before .before .before .before .before .before .before .before .before .before .before .before .before .before .before .before .before .full-word .ensures) (c .before .before .before .before .first-count .ensures) (s .pre .1 .words) (c .before .before .before .before .before .before .before .before .before .before .before .before .before .before .before .fill-domains .ensures)
-    (c .before .before .before .before .before .before .before .before .before .before .before .start-counts .ensures (a .cells) (s .pre .1 .supports)) (c .before .before .before .before .before .before .before .begin-floats .ensures) _ (omega (arith, s .pre .1 .notes)) (c .before .before .begin-marks .ensures)
+    (c .before .before .before .before .before .before .before .before .before .before .before .before .before .before .before .before .before .full-word .ensures) (c .before .before .before .before .first-count .ensures) (s .pre .1 .measured .domains) (c .before .before .before .before .before .before .before .before .before .before .before .before .before .before .before .fill-domains .ensures)
+    (c .before .before .before .before .before .before .before .before .before .before .before .start-counts .ensures (a .cells) (s .pre .1 .measured .counts)) (c .before .before .before .before .before .before .before .begin-floats .ensures) _ (omega (arith, s .pre .1 .measured .marks)) (c .before .before .begin-marks .ensures)
 
 pub begin-state-spec : {M : Type 1} → statement M
 begin-state-spec =

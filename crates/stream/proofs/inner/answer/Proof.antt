@@ -3,10 +3,11 @@
 use mathlib.Core.Path.{sym, _∙_}
 use native.Mathlib.Omega.{arith}
 use lib.Seq.{length-take-le}
+use borrow.Author.Needs.{needs}
 use Rattle.records.specs.Laying.{pen, laid}
 use Rattle.stream.specs.Cases.{parts, comesTo, answerOf}
+use Rattle.stream.proofs.KeptLaws.{held-part}
 use Rattle.stream.proofs.WordLaws.{take-least}
-use borrow.Author.Needs.{needs}
 use Rattle.stream.proofs.inner.answer.Statement.{statement}
 use Rattle.stream.proofs.inner.answer.Tie as tie
 
@@ -31,10 +32,14 @@ slice-aggregate-answer-bytes-3 c = sym (length-take-le _ _ (c .before .before .b
 answer-bytes-requires : tie.Need-answer-bytes-requires
 answer-bytes-requires c κs =
     let a = c .before .before .before .before .before .before .before .before .before .before .before .args in
-    let R = c .before .before .before .before .before .before .before .before .before .before .before .pre .0 in (
-      omega (arith, R .noise-long, c .before .before .before .before .before .least2 .ensures .2, length-take-le (c .before .before .before .before .before .least2 .result) (a .noise .now) (c .before .before .before .before .before .least2 .ensures .2)),
-      omega (arith, R .words-long, c .before .before .before .before .least3 .ensures .2, length-take-le (c .before .before .before .before .least3 .result) (a .words .now) (c .before .before .before .before .least3 .ensures .2)),
-      c .before .before .before .before .before .before .before .before .before .before .before .pre .1,
+    let (R, room, (b, H)) = c .before .before .before .before .before .before .before .before .before .before .before .pre in
+    let sheet = c .before .before .before .before .before .before .least in
+    let noise = c .before .before .before .before .before .least2 in
+    let words = c .before .before .before .before .least3 in (
+      omega (arith, R .noise-long, noise .ensures .2, length-take-le (noise .result) (a .noise .now) (noise .ensures .2)),
+      omega (arith, R .words-long, words .ensures .2, length-take-le (words .result) (a .words .now) (words .ensures .2)),
+      room,
+      (b, held-part (take-least (a .size) (sheet .result) (a .sheet .now) (sheet .ensures .0)) H),
     )
 
 same-length : tie.Need-same-length
@@ -43,10 +48,13 @@ same-length c = search needs
 returns : tie.Need-returns
 returns c =
     let a = c .before .before .before .before .before .before .before .before .before .before .before .before .before .before .args in
-    let s = take-least (a .size) (c .before .before .before .before .before .before .before .before .before .least .result) (a .sheet .now) (c .before .before .before .before .before .before .before .before .before .least .ensures .0) in
-    let n = take-least (a .noises) (c .before .before .before .before .before .before .before .before .least2 .result) (a .noise .now) (c .before .before .before .before .before .before .before .before .least2 .ensures .0) in
-    let w = take-least (a .many) (c .before .before .before .before .before .before .before .least3 .result) (a .words .now) (c .before .before .before .before .before .before .before .least3 .ensures .0) in (
-      c .before .before .answer-bytes .ensures .0 ∙ (λ j. laid (answerOf (comesTo (parts (s j) (n j) (w j)))) (pen (a .out .now) 0)),
+    let sheet = c .before .before .before .before .before .before .before .before .before .least in
+    let noise = c .before .before .before .before .before .before .before .before .least2 in
+    let words = c .before .before .before .before .before .before .before .least3 in
+    let s = take-least (a .size) (sheet .result) (a .sheet .now) (sheet .ensures .0) in
+    let n = take-least (a .noises) (noise .result) (a .noise .now) (noise .ensures .0) in
+    let w = take-least (a .many) (words .result) (a .words .now) (words .ensures .0) in (
+      λ b H. c .before .before .answer-bytes .ensures .0 b (held-part s H) ∙ (λ j. laid (answerOf (comesTo (parts b (n j) (w j)))) (pen (a .out .now) 0)),
       c .before .before .answer-bytes .ensures .1,
     )
 

@@ -4,11 +4,9 @@ use mathlib.Core.List.{List}
 use mathlib.Core.Path.{refl, sym, ap, _∙_}
 use Prim.Native.Nat.{ℕ}
 use native.Mathlib.Omega.{arith}
-use Rattle.records.specs.Laying.{pen, laid}
-use Rattle.bounded.specs.Laid.{laidOf}
-use Rattle.stream.specs.Cases.{answerOf}
-use Rattle.stream.proofs.CaseLaws.{room-ended, room-refused, answer-ended, answer-refused, answer-large, wrote-number}
 use borrow.Author.Needs.{needs}
+use Rattle.records.specs.Laying.{pen, laid}
+use Rattle.stream.proofs.CaseLaws.{room-ended, room-refused, answer-ended, answer-refused, answer-large, wrote-short, wrote-number}
 use Rattle.stream.proofs.inner.tell.Statement.{statement}
 use Rattle.stream.proofs.inner.tell.Tie as tie
 
@@ -21,8 +19,9 @@ enum-known-size c = search needs
 tell-result-requires : tie.Need-tell-result-requires
 tell-result-requires c κs =
     let a = c .before .before .before .before .before .before .before .before .before .before .before .before .before .before .before .before .before .before .args in
+    let (b, H) = c .before .before .before .before .before .before .before .before .before .before .before .before .before .before .before .before .before .before .pre .3 in
     let lay = c .before .before .before .before .before .before .before .before .before .lay in
-    (room-ended (a .sheet .now) (a .noise .now) (a .words .now) (lay .last .1 .1 .1 .0) (lay .last .1 .1 .1 .1 .0) (a .domains .now) (a .result .now) (lay .result) (lay .ensures) (c .before .before .before .size .given .0 .0) (c .before .before .before .size .given .0 .1 .0) (c .before .before .before .size .given .0 .1 .1 .0) (c .before .before .before .size .given .1), search needs, search needs)
+    (room-ended b (a .noise .now) (a .words .now) (lay .last .1 .1 .1 .1 .0) (lay .last .1 .1 .1 .1 .1 .0) (a .domains .now) (a .result .now) (lay .result) (lay .ensures b H) (c .before .before .before .size .given .0 .0) (c .before .before .before .size .given .0 .1 .0) (c .before .before .before .size .given .0 .1 .1 .0) (c .before .before .before .size .given .1), search needs, search needs)
 
 enum-known-number : tie.Need-enum-known-number
 enum-known-number c = search needs
@@ -33,8 +32,9 @@ plain-requires c κs = search needs
 lay-u16-requires : tie.Need-lay-u16-requires
 lay-u16-requires c κs =
     let a = c .before .before .before .before .before .before .before .before .before .before .before .before .before .before .before .before .before .before .args in
+    let (b, H) = c .before .before .before .before .before .before .before .before .before .before .before .before .before .before .before .before .before .before .pre .3 in
     let lay = c .before .before .before .before .before .before .before .before .before .lay in
-    (omega (arith, c .before .plain .ensures, room-refused (a .sheet .now) (a .noise .now) (a .words .now) (lay .last .1 .1 .1 .0) (lay .last .1 .1 .1 .1 .0) (a .domains .now) (a .result .now) (lay .result) (lay .ensures) (c .before .before .before .number .given .0 .0) (c .before .before .before .number .given .1)), omega (arith, c .before .before .before .before .before .before .before .before .before .before .before .before .before .before .before .before .before .before .pre .2))
+    (omega (arith, c .before .plain .ensures, room-refused b (a .noise .now) (a .words .now) (lay .last .1 .1 .1 .1 .0) (lay .last .1 .1 .1 .1 .1 .0) (a .domains .now) (a .result .now) (lay .result) (lay .ensures b H) (c .before .before .before .number .given .0 .0) (c .before .before .before .number .given .1)), omega (arith, c .before .before .before .before .before .before .before .before .before .before .before .before .before .before .before .before .before .before .pre .2))
 
 enum-told : tie.Need-enum-told
 enum-told c = search needs
@@ -54,8 +54,9 @@ same-length-3 c = search needs
 returns : tie.Need-returns
 returns c =
     let a = c .before .before .before .before .before .before .before .before .before .before .before .before .before .before .before .before .before .before .before .before .before .args in
-    let lay = c .before .before .before .before .before .before .before .before .before .before .before .before .lay in (
-      c .before .before .tell-result .ensures .0 ∙ ap (λ (l : List ℕ). laid l (pen (a .out .now) 0)) (sym (answer-ended (a .sheet .now) (a .noise .now) (a .words .now) (lay .last .1 .1 .1 .0) (lay .last .1 .1 .1 .1 .0) (a .domains .now) (a .result .now) (lay .result) (lay .ensures) (c .before .before .before .before .before .before .size .given .0 .0) (c .before .before .before .before .before .before .size .given .0 .1 .0) (c .before .before .before .before .before .before .size .given .0 .1 .1 .0) (c .before .before .before .before .before .before .size .given .1))),
+    let lay = c .before .before .before .before .before .before .before .before .before .before .before .before .lay in
+    let size = c .before .before .before .before .before .before .size .given in (
+      λ b H. c .before .before .tell-result .ensures .0 ∙ ap (λ (l : List ℕ). laid l (pen (a .out .now) 0)) (sym (answer-ended b (a .noise .now) (a .words .now) (lay .last .1 .1 .1 .1 .0) (lay .last .1 .1 .1 .1 .1 .0) (a .domains .now) (a .result .now) (lay .result) (lay .ensures b H) (size .0 .0) (size .0 .1 .0) (size .0 .1 .1 .0) (size .1))),
       c .before .before .tell-result .ensures .1,
     )
 
@@ -72,7 +73,11 @@ returns-2 : tie.Need-returns-2
 returns-2 c =
     let a = c .before .before .before .before .before .before .before .before .before .before .before .before .before .before .before .before .before .before .before .before .before .args in
     let lay = c .before .before .before .before .before .before .before .before .before .before .before .before .lay in
-    wrote-number (answerOf (laidOf (a .sheet .now) (a .noise .now) (a .words .now))) (c .before .before .lay-u16 .last .1 .0) (a .out .now) (c .before .before .lay-u16 .result) (c .before .before .before .before .plain .result) (c .before .before .before .before .before .before .number .given .0 .0) (answer-refused (a .sheet .now) (a .noise .now) (a .words .now) (lay .last .1 .1 .1 .0) (lay .last .1 .1 .1 .1 .0) (a .domains .now) (a .result .now) (lay .result) (lay .ensures) (c .before .before .before .before .before .before .number .given .0 .0) (c .before .before .before .before .before .before .number .given .1)) (c .before .before .before .before .plain .ensures) (c .before .before .lay-u16 .ensures)
+    let number = c .before .before .before .before .before .before .number .given in
+    let wrote = c .before .before .lay-u16 in (
+      λ b H. wrote-number (wrote .last .1 .0) (a .out .now) (wrote .result) (c .before .before .before .before .plain .result) (wrote .ensures) (answer-refused b (a .noise .now) (a .words .now) (lay .last .1 .1 .1 .1 .0) (lay .last .1 .1 .1 .1 .1 .0) (a .domains .now) (a .result .now) (lay .result) (lay .ensures b H) (number .0 .0) (number .1)) (c .before .before .before .before .plain .ensures),
+      wrote-short (wrote .last .1 .0) (a .out .now) (wrote .result) (c .before .before .before .before .plain .result) (wrote .ensures),
+    )
 
 same-length-7 : tie.Need-same-length-7
 same-length-7 c = search needs
@@ -87,7 +92,10 @@ returns-3 : tie.Need-returns-3
 returns-3 c =
     let a = c .before .before .before .before .before .before .before .before .before .before .before .before .before .before .before .before .before .before .before .args in
     let lay = c .before .before .before .before .before .before .before .before .before .before .lay in
-    wrote-number (answerOf (laidOf (a .sheet .now) (a .noise .now) (a .words .now))) (c .before .before .lay-u162 .last .1 .0) (a .out .now) (c .before .before .lay-u162 .result) 65535 65535 (answer-large (a .sheet .now) (a .noise .now) (a .words .now) (lay .last .1 .1 .1 .0) (lay .last .1 .1 .1 .1 .0) (a .domains .now) (a .result .now) (lay .result) (lay .ensures) (c .before .before .before .before .enum-told .given .1)) refl (c .before .before .lay-u162 .ensures)
+    let wrote = c .before .before .lay-u162 in (
+      λ b H. wrote-number (wrote .last .1 .0) (a .out .now) (wrote .result) 65535 (wrote .ensures) (answer-large b (a .noise .now) (a .words .now) (lay .last .1 .1 .1 .1 .0) (lay .last .1 .1 .1 .1 .1 .0) (a .domains .now) (a .result .now) (lay .result) (lay .ensures b H) (c .before .before .before .before .enum-told .given .1)) refl,
+      wrote-short (wrote .last .1 .0) (a .out .now) (wrote .result) 65535 (wrote .ensures),
+    )
 
 pub tell-spec : {M : Type 1} → statement M
 tell-spec =

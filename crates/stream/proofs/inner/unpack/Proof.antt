@@ -4,12 +4,12 @@ use mathlib.Core.Path.{sym, ap, _∙_}
 use native.Mathlib.Omega.{arith}
 use lib.ListN.{length}
 use lib.Seq.{length-take-le}
+use borrow.Author.Needs.{needs}
 use Rattle.records.specs.Laying.{pen, laid}
 use Rattle.run.specs.Run.{Ended}
 use Rattle.bounded.specs.Laid.{Told}
 use Rattle.stream.specs.Cases.{answerOf}
 use Rattle.stream.proofs.WordLaws.{unpacked}
-use borrow.Author.Needs.{needs}
 use Rattle.stream.proofs.inner.unpack.Statement.{statement}
 use Rattle.stream.proofs.inner.unpack.Tie as tie
 
@@ -47,8 +47,8 @@ returns : tie.Need-returns
 returns c =
     let a = c .before .before .before .before .before .before .before .before .before .before .before .before .before .before .before .before .before .before .before .before .args in
     let p = c .before .before .before .before .before .before .before .before .before .before .before .before .before .before .before .before .before .before .before .before .pre in (
-      c .before .before .answer-numbers .ensures .0
-          ∙ ap (λ (x : Told Ended). laid (answerOf x) (pen (a .out .now) 0)) (unpacked (a .sheet .now) (a .noise .now) (a .words .now) (c .before .before .before .before .before .before .before .before .before .before .before .before .read .last .1 .0) (c .before .before .before .before .before .before .before .before .read2 .last .1 .0) (length (a .first .now)) (length (a .second .now)) (c .before .before .before .before .before .before .before .before .before .before .before .before .read .ensures) (c .before .before .before .before .before .before .before .before .read2 .ensures) (omega (arith, p .0, p .2)) (omega (arith, p .1, p .3))),
+      λ b H. c .before .before .answer-numbers .ensures .0 b H
+          ∙ ap (λ (x : Told Ended). laid (answerOf x) (pen (a .out .now) 0)) (unpacked b (a .noise .now) (a .words .now) (c .before .before .before .before .before .before .before .before .before .before .before .before .read .last .1 .0) (c .before .before .before .before .before .before .before .before .read2 .last .1 .0) (length (a .first .now)) (length (a .second .now)) (c .before .before .before .before .before .before .before .before .before .before .before .before .read .ensures) (c .before .before .before .before .before .before .before .before .read2 .ensures) (omega (arith, p .0, p .2)) (omega (arith, p .1, p .3))),
       c .before .before .answer-numbers .ensures .1,
     )
 
