@@ -14,7 +14,7 @@ use Rattle.text.specs.Numbers.{digits, decimal}
 use Rattle.text.specs.Pages.{Page, put, ascii, line}
 use Rattle.directions.specs.Directions.{opposite}
 use Rattle.faults.specs.declared.inner.Place.{Place}
-use Rattle.command.specs.Places.{ways, backs, listText, besideText, pairText, forbidText, placeText}
+use Rattle.command.specs.Places.{ways, backs, listText, halfText, pairText, forbidText, whereText}
 use Rattle.command.specs.Sentences.{sentences, refusalText, faults, faultText, shownByte, shown, fileFaults, fileText}
 use Rattle.text.proofs.PageLaws.{put-none, put-cons}
 use Rattle.directions.proofs.DirectionLaws.{of-four}
@@ -52,8 +52,8 @@ module _ (name : List ℕ) {R : Page} where
 -- ---- a place
 
 -- what is put for a place that is known
-pub put-placed : (p : Page) {place known : Place} {r : Page} → place ≡ known → r ≡ put (placeText known) p → r ≡ put (placeText place) p
-put-placed p e f = f ∙ ap (λ (x : Place). put (placeText x) p) (sym e)
+pub put-placed : (p : Page) {place known : Place} {r : Page} → place ≡ known → r ≡ put (whereText known) p → r ≡ put (whereText place) p
+put-placed p e f = f ∙ ap (λ (x : Place). put (whereText x) p) (sym e)
 
 -- ---- one line
 
@@ -131,9 +131,9 @@ plain-list p d =
     let start = plain-append (ascii ": what may stand ") (line d ways) (λ t. refl) (plain-line d ways) in
     plain-append b (decimal p) (plain-append a (ascii " of pattern ") start (λ t. refl)) (plain-digits 20 p)
 
-plain-beside : (start : List ℕ) (q : ℕ) (verb names : List ℕ) (d p : ℕ) → Plain start → Plain verb → Plain (besideText start q verb names d p)
-unfolding besideText decimal line
-plain-beside start q verb names d p e f =
+plain-half : (start : List ℕ) (q : ℕ) (verb names : List ℕ) (d p : ℕ) → Plain start → Plain verb → Plain (halfText start q verb names d p)
+unfolding halfText decimal line
+plain-half start q verb names d p e f =
     let a = start ++ decimal q in
     let b = a ++ verb in
     let c = b ++ line d names in
@@ -148,16 +148,16 @@ plain-forbid i names n e =
     let start = plain-append (ascii ": forbid ") (decimal i) (λ t. refl) (plain-digits 20 i) in
     plain-append (a ++ names) (decimal n) (plain-append a names start e) (plain-digits 20 n)
 
-plain-place : (place : Place) → Plain (placeText place)
-unfolding placeText pairText line
+plain-place : (place : Place) → Plain (whereText place)
+unfolding whereText pairText line
 plain-place at.Nowhere = plain-none
 plain-place (at.List p d) = plain-list p d
 plain-place (at.Pair p d q) =
     plain-append
-    (besideText (ascii ": ") q (ascii " may stand ") ways d p)
-    (besideText (ascii ", but not ") p (ascii " ") backs d q)
-    (plain-beside (ascii ": ") q (ascii " may stand ") ways d p (λ t. refl) (λ t. refl))
-    (plain-beside (ascii ", but not ") p (ascii " ") backs d q (λ t. refl) (λ t. refl))
+    (halfText (ascii ": ") q (ascii " may stand ") ways d p)
+    (halfText (ascii ", but not ") p (ascii " ") backs d q)
+    (plain-half (ascii ": ") q (ascii " may stand ") ways d p (λ t. refl) (λ t. refl))
+    (plain-half (ascii ", but not ") p (ascii " ") backs d q (λ t. refl) (λ t. refl))
 plain-place (at.Cell i c) = plain-forbid i (ascii " names cell ") c (λ t. refl)
 plain-place (at.Pattern i p) = plain-forbid i (ascii " names pattern ") p (λ t. refl)
 
@@ -177,7 +177,7 @@ refusal-one-line number place =
     let start = plain-append (ascii "ocean: refused: ") (decimal number) (λ t. refl) (plain-digits 20 number) in
     let space = plain-append a (32 ∷ []) start (λ t. refl) in
     let sentence = plain-append b (line number sentences) space (plain-line number sentences) in
-    one-line (c ++ placeText place) (ascii ".\n") (plain-append c (placeText place) sentence (plain-place place)) refl
+    one-line (c ++ whereText place) (ascii ".\n") (plain-append c (whereText place) sentence (plain-place place)) refl
 
 pub fault-one-line : (fault : ℕ) → OneLine (faultText fault)
 unfolding faultText line

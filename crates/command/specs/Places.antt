@@ -19,23 +19,23 @@ unfoldable pub listText : ℕ → ℕ → List ℕ
 listText p d = ascii ": what may stand " ++ line d ways ++ ascii " of pattern " ++ decimal p
 
 -- that a pattern stands beside another, in the direction that is line d of the names
-unfoldable pub besideText : List ℕ → ℕ → List ℕ → List ℕ → ℕ → ℕ → List ℕ
-besideText start q verb names d p = start ++ decimal q ++ verb ++ line d names ++ ascii " of " ++ decimal p
+unfoldable pub halfText : List ℕ → ℕ → List ℕ → List ℕ → ℕ → ℕ → List ℕ
+halfText start q verb names d p = start ++ decimal q ++ verb ++ line d names ++ ascii " of " ++ decimal p
 
 -- two patterns of which one may stand beside the other, and not the other beside it
 unfoldable pub pairText : ℕ → ℕ → ℕ → List ℕ
-unfolding besideText
-pairText p d q = besideText (ascii ": ") q (ascii " may stand ") ways d p ++ besideText (ascii ", but not ") p (ascii " ") backs d q
+unfolding halfText
+pairText p d q = halfText (ascii ": ") q (ascii " may stand ") ways d p ++ halfText (ascii ", but not ") p (ascii " ") backs d q
 
 -- a forbid, and what it names
 unfoldable pub forbidText : ℕ → List ℕ → ℕ → List ℕ
 forbidText i names n = ascii ": forbid " ++ decimal i ++ names ++ decimal n
 
 -- the place, and nothing where there is none
-unfoldable pub placeText : Place → List ℕ
+unfoldable pub whereText : Place → List ℕ
 unfolding listText pairText forbidText
-placeText at.Nowhere = []
-placeText (at.List p d) = listText p d
-placeText (at.Pair p d q) = pairText p d q
-placeText (at.Cell i c) = forbidText i (ascii " names cell ") c
-placeText (at.Pattern i p) = forbidText i (ascii " names pattern ") p
+whereText at.Nowhere = []
+whereText (at.List p d) = listText p d
+whereText (at.Pair p d q) = pairText p d q
+whereText (at.Cell i c) = forbidText i (ascii " names cell ") c
+whereText (at.Pattern i p) = forbidText i (ascii " names pattern ") p

@@ -7,7 +7,7 @@ use lib.Dec.{ltb, eqb}
 use Rattle.text.specs.Pages.{ascii, line}
 use Rattle.text.specs.Numbers.{decimal}
 use Rattle.faults.specs.declared.inner.Place.{Place}
-use Rattle.command.specs.Places.{placeText}
+use Rattle.command.specs.Places.{whereText}
 
 -- the name of each refusal and what it means, one to a line, from 0 for none
 unfoldable pub sentences : List ℕ
@@ -15,8 +15,8 @@ sentences = ascii "Accepted: nothing is refused\nBadSize: a side of the grid is 
 
 -- why a sheet was refused, by the refusal's number, and where it is wrong
 unfoldable pub refusalText : ℕ → Place → List ℕ
-unfolding placeText
-refusalText number place = ascii "ocean: refused: " ++ decimal number ++ (32 ∷ []) ++ line number sentences ++ placeText place ++ ascii ".\n"
+unfolding whereText
+refusalText number place = ascii "ocean: refused: " ++ decimal number ++ (32 ∷ []) ++ line number sentences ++ whereText place ++ ascii ".\n"
 
 -- what is wrong with what is asked, one to a line, from 0 for nothing
 unfoldable pub faults : List ℕ

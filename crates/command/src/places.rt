@@ -1,7 +1,7 @@
 // Where a refused sheet is wrong, in words that follow the refusal's sentence.
 ghost use mathlib.Core.Path.{_≡_};
 ghost use Rattle.text.specs.Pages.{page, put};
-ghost use Rattle.command.specs.Places.{listText, besideText, pairText, forbidText, placeText};
+ghost use Rattle.command.specs.Places.{listText, halfText, pairText, forbidText, whereText};
 use faults::inner::Place;
 use text::put_decimal;
 use text::put_line;
@@ -18,7 +18,7 @@ fn put_list(p: usize, d: usize, at: usize, out: &mut [u8]) -> usize
 }
 
 // That a pattern stands beside another, in the direction that is line d of the names.
-fn put_beside(
+fn put_half(
     start: &[u8],
     q: usize,
     verb: &[u8],
@@ -28,7 +28,7 @@ fn put_beside(
     at: usize,
     out: &mut [u8],
 ) -> usize
-    ensures { λ r. ⌜ page (now (out .exit)) r ≡ put (besideText (now (start .entry)) q (now (verb .entry)) (now (names .entry)) d p) (page (now (out .entry)) at) ⌝ }
+    ensures { λ r. ⌜ page (now (out .exit)) r ≡ put (halfText (now (start .entry)) q (now (verb .entry)) (now (names .entry)) d p) (page (now (out .entry)) at) ⌝ }
 {
     let a = put_text(start, at, out);
     let b = put_decimal(q, a, out);
@@ -42,7 +42,7 @@ fn put_beside(
 fn put_pair(p: usize, d: usize, q: usize, at: usize, out: &mut [u8]) -> usize
     ensures { λ r. ⌜ page (now (out .exit)) r ≡ put (pairText p d q) (page (now (out .entry)) at) ⌝ }
 {
-    let a = put_beside(
+    let a = put_half(
         b": ",
         q,
         b" may stand ",
@@ -52,7 +52,7 @@ fn put_pair(p: usize, d: usize, q: usize, at: usize, out: &mut [u8]) -> usize
         at,
         out,
     );
-    put_beside(
+    put_half(
         b", but not ",
         p,
         b" ",
@@ -76,7 +76,7 @@ fn put_forbid(i: usize, names: &[u8], n: usize, at: usize, out: &mut [u8]) -> us
 
 // The place, and nothing where there is none.
 pub(crate) fn put_place(place: Place, at: usize, out: &mut [u8]) -> usize
-    ensures { λ r. ⌜ page (now (out .exit)) r ≡ put (placeText place) (page (now (out .entry)) at) ⌝ }
+    ensures { λ r. ⌜ page (now (out .exit)) r ≡ put (whereText place) (page (now (out .entry)) at) ⌝ }
 {
     match place {
         Place::Nowhere => at,

@@ -21,49 +21,49 @@ use Rattle.layout.specs.Reading.{wellFormed, sheetIn}
 use Rattle.sheet.specs.declared.Measures.{Measures}
 use Rattle.sheet.specs.declared.SizesAnswer.{SizesAnswer}
 use Rattle.sheet.specs.Called.{measured, sizesTold, sizesAsked}
-use Rattle.faults.specs.Places.{failing, listFits, listAgrees, answersIn, listPlace, unanswered, pairPlace, judged, forbidFits, forbidPlace, placeAt, placeOf, placeIn}
+use Rattle.faults.specs.Places.{firstFailing, listFits, listAgrees, answersIn, listPlace, unanswered, pairPlace, judged, forbidFits, forbidPlace, placeAt, sheetPlace, placeIn}
 use Rattle.sheet.proofs.CalledLaws.{sizes-told}
 use Rattle.sheet.specs.declared.SizesAnswer.the-variants as sizes
 use Rattle.faults.specs.declared.inner.Place.the-variants as at
 
 -- ---- lists
 
-module _ (t : Table) {k : ℕ} (e : k ≡ failing (listFits t) 0 (4 * t .count)) where
+module _ (t : Table) {k : ℕ} (e : k ≡ firstFailing (listFits t) 0 (4 * t .count)) where
   pub list-some : k < 4 * t .count → at.List (k / 4) (k % 4) ≡ listPlace t
   unfolding listPlace
   list-some h =
-      let K = failing (listFits t) 0 (4 * t .count) in
+      let K = firstFailing (listFits t) 0 (4 * t .count) in
       ap (λ (n : ℕ). at.List (n / 4) (n % 4)) e ∙ sym (rw (lt-ltb K (4 * t .count) (omega arith)))
 
   pub list-none : 4 * t .count ≤ k → at.Nowhere ≡ listPlace t
   unfolding listPlace
   list-none h =
-      let K = failing (listFits t) 0 (4 * t .count) in
+      let K = firstFailing (listFits t) 0 (4 * t .count) in
       sym (rw (le-ltb K (4 * t .count) (omega arith)))
 
 -- ---- agreement
 
 -- the id at the place that the search found
-pub unanswered-is : (t : Table) (p d : ℕ) {l : List ℕ} {i q : ℕ} → l ≡ listOf t p d → i ≡ failing (answersIn t p d l) 0 (length l) → q ≡ getD l i 0 → q ≡ unanswered t p d
+pub unanswered-is : (t : Table) (p d : ℕ) {l : List ℕ} {i q : ℕ} → l ≡ listOf t p d → i ≡ firstFailing (answersIn t p d l) 0 (length l) → q ≡ getD l i 0 → q ≡ unanswered t p d
 unfolding unanswered
-unanswered-is t p d {l} e f g = g ∙ ap (λ (n : ℕ). getD l n 0) f ∙ ap (λ (x : List ℕ). getD x (failing (answersIn t p d x) 0 (length x)) 0) e
+unanswered-is t p d {l} e f g = g ∙ ap (λ (n : ℕ). getD l n 0) f ∙ ap (λ (x : List ℕ). getD x (firstFailing (answersIn t p d x) 0 (length x)) 0) e
 
 pub pair-bad : (t : Table) → badList t ≡ true → at.Nowhere ≡ pairPlace t
 unfolding pairPlace
 pair-bad t e = sym (rw e)
 
-module _ (t : Table) (good : badList t ≡ false) {k : ℕ} (e : k ≡ failing (listAgrees t) 0 (4 * t .count)) where
+module _ (t : Table) (good : badList t ≡ false) {k : ℕ} (e : k ≡ firstFailing (listAgrees t) 0 (4 * t .count)) where
   pub pair-some : k < 4 * t .count → {q : ℕ} → q ≡ unanswered t (k / 4) (k % 4) → at.Pair (k / 4) (k % 4) q ≡ pairPlace t
   unfolding pairPlace
   pair-some h f =
-      let K = failing (listAgrees t) 0 (4 * t .count) in
+      let K = firstFailing (listAgrees t) 0 (4 * t .count) in
       ap (at.Pair (k / 4) (k % 4)) f ∙ ap (λ (n : ℕ). at.Pair (n / 4) (n % 4) (unanswered t (n / 4) (n % 4))) e
       ∙ sym (rw (good, lt-ltb K (4 * t .count) (omega arith)))
 
   pub pair-none : 4 * t .count ≤ k → at.Nowhere ≡ pairPlace t
   unfolding pairPlace
   pair-none h =
-      let K = failing (listAgrees t) 0 (4 * t .count) in
+      let K = firstFailing (listAgrees t) 0 (4 * t .count) in
       sym (rw (good, le-ltb K (4 * t .count) (omega arith)))
 
 -- ---- forbids
@@ -77,9 +77,9 @@ module _ (P : ℕ) (g : Grid) (ns : List ℕ) (i : ℕ) {n : ℕ} (e : n ≡ fir
   unfolding judged
   forbid-passes z = eq-eqb _ 0 (sym e ∙ z)
 
-module _ (P : ℕ) (g : Grid) (ns : List ℕ) {i : ℕ} (e : i ≡ failing (forbidFits P g ns) 0 (length ns / 3)) where
+module _ (P : ℕ) (g : Grid) (ns : List ℕ) {i : ℕ} (e : i ≡ firstFailing (forbidFits P g ns) 0 (length ns / 3)) where
   abbrev K : ℕ
-  K = failing (forbidFits P g ns) 0 (length ns / 3)
+  K = firstFailing (forbidFits P g ns) 0 (length ns / 3)
 
   module _ (h : i < length ns / 3) {n : ℕ} (f : n ≡ firstOf (placeTests P g (getD ns (3 * i) 0) (getD ns (3 * i + 1) 0))) where
     same : n ≡ judged P g ns K
@@ -138,8 +138,8 @@ module _ (s : Sheet) (m : Measures) (e : m ≡ measured s) {offsets ids : List �
   pub laid-read : Laid (tableOf s) → Laid (table (m .count) offsets ids)
   laid-read L = subst Laid table-read L
 
-  pub place-read : (n : ℕ) {forbids : List ℕ} → forbids ≡ s .forbids → placeAt n (table (m .count) offsets ids) (grid (m .width) (m .height) (m .mode)) forbids ≡ placeOf n s
-  unfolding placeOf measured tableOf
+  pub place-read : (n : ℕ) {forbids : List ℕ} → forbids ≡ s .forbids → placeAt n (table (m .count) offsets ids) (grid (m .width) (m .height) (m .mode)) forbids ≡ sheetPlace n s
+  unfolding sheetPlace measured tableOf
   place-read n h = λ j. placeAt n (table (e j .count) (f j) (g j)) (grid (e j .width) (e j .height) (e j .mode)) (h j)
 
 module _ (n : ℕ) (b : List ℕ) where
@@ -152,7 +152,7 @@ module _ (n : ℕ) (b : List ℕ) where
   unfolding placeIn sizesTold told
   place-unread is f = go (wellFormed b) refl
     where
-      go : (v : Bool) → wellFormed b ≡ v → at.Nowhere ≡ cond (v && leb (length (sheetIn b .weights)) 64) (placeOf n (sheetIn b)) at.Nowhere
+      go : (v : Bool) → wellFormed b ≡ v → at.Nowhere ≡ cond (v && leb (length (sheetIn b .weights)) 64) (sheetPlace n (sheetIn b)) at.Nowhere
       go false w = refl
       go true w = absurd (false≢true (ap told (sym (ap sizesTold is) ∙ f ∙ sym (sizes-told b w refl))))
 
@@ -161,6 +161,6 @@ module _ (n : ℕ) (b : List ℕ) where
     unfolding placeIn
     place-many h = sym (rw (w, lt-leb (length (sheetIn b .weights)) 64 h))
 
-    pub place-few : length (sheetIn b .weights) ≤ 64 → placeOf n (sheetIn b) ≡ placeIn n b
+    pub place-few : length (sheetIn b .weights) ≤ 64 → sheetPlace n (sheetIn b) ≡ placeIn n b
     unfolding placeIn
     place-few h = sym (rw (w, le-leb (length (sheetIn b .weights)) 64 h))

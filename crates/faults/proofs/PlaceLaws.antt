@@ -21,31 +21,31 @@ use Rattle.layout.specs.Tables.{tableOf}
 use Rattle.layout.specs.Reading.{wellFormed, sheetIn}
 use Rattle.sheet.specs.Called.{formTest, scalarTests, contentTests, sheetTests}
 use Rattle.bounded.specs.Laid.{sheetRefusal}
-use Rattle.faults.specs.Places.{failing, First, listFits, listAgrees, answers, listPlace, unanswered, pairPlace, judged, forbidFits, forbidPlace, placeAt, placeOf, placeIn}
+use Rattle.faults.specs.Places.{firstFailing, First, listFits, listAgrees, answers, listPlace, unanswered, pairPlace, judged, forbidFits, forbidPlace, placeAt, sheetPlace, placeIn}
 use Rattle.refusals.proofs.RefusalLaws.{first-next}
 use Rattle.loops.proofs.TestLaws.{every-fails}
 use Rattle.adjacency.proofs.ListLaws.{listAt-of}
 use Rattle.adjacency.proofs.AcceptedLaws.{counted}
 use Rattle.run.proofs.NumberLaws.{refusalFrom, refusal-here, refusal-next, refusal-end}
 use Rattle.layout.proofs.ShapeLaws.{formed}
-use Rattle.faults.proofs.SearchLaws.{failing-first, failing-some, failing-all}
+use Rattle.faults.proofs.SearchLaws.{search-first, search-some, search-all}
 use Rattle.faults.proofs.SheetLaws.{sheet-offsets}
 use Rattle.faults.specs.declared.inner.Place.the-variants as at
 
 -- ---- where a number is given, the tests before its own do not hold
 
-record Given (ts : List Test) (n : ℕ) : Type 0 where
+record FirstIs (ts : List Test) (n : ℕ) : Type 0 where
   by : firstOf ts ≡ n
 
-other : (k : ℕ) {t : Test} {ts : List Test} {n : ℕ} → Given (t ∷ ts) n → number (t .refusal) ≡ k → (k ≡ n → ⊥) → (t .holds ≡ false) × Given ts n
+other : (k : ℕ) {t : Test} {ts : List Test} {n : ℕ} → FirstIs (t ∷ ts) n → number (t .refusal) ≡ k → (k ≡ n → ⊥) → (t .holds ≡ false) × FirstIs ts n
 unfolding firstOf
 other k {t} {ts} {n} e is differs = go (t .holds) refl (e .by)
   where
-    go : (b : Bool) → t .holds ≡ b → cond b (number (t .refusal)) (firstOf ts) ≡ n → (t .holds ≡ false) × Given ts n
+    go : (b : Bool) → t .holds ≡ b → cond b (number (t .refusal)) (firstOf ts) ≡ n → (t .holds ≡ false) × FirstIs ts n
     go true h f = absurd (differs (sym is ∙ f))
     go false h f = (h, record { by = f })
 
-past : {t : Test} {ts : List Test} {n : ℕ} → Given (t ∷ ts) n → t .holds ≡ false → Given ts n
+past : {t : Test} {ts : List Test} {n : ℕ} → FirstIs (t ∷ ts) n → t .holds ≡ false → FirstIs ts n
 past {t} {ts} e h = record { by = sym (first-next t ts h) ∙ e .by }
 
 -- ---- forbids
@@ -57,8 +57,8 @@ module _ (t : Table) (g : Grid) (ns : List ℕ) where
 
   -- the refusal of all is that of the record that is found
   forbids-found : (m i : ℕ) → i + m ≡ length ns / 3
-      → refusalFrom t g ns i ≡ cond (ltb (failing (forbidFits (t .count) g ns) i m) (length ns / 3)) (judged (t .count) g ns (failing (forbidFits (t .count) g ns) i m)) 0
-  unfolding failing
+      → refusalFrom t g ns i ≡ cond (ltb (firstFailing (forbidFits (t .count) g ns) i m) (length ns / 3)) (judged (t .count) g ns (firstFailing (forbidFits (t .count) g ns) i m)) 0
+  unfolding firstFailing
   forbids-found zero i e = sym (refusal-end t g ns i (omega arith)) ∙ sym (rw (le-ltb i (length ns / 3) (omega arith)))
   forbids-found (suc m) i e = go (forbidFits (t .count) g ns i) refl (forbids-found m (suc i) (omega arith))
     where
@@ -66,7 +66,7 @@ module _ (t : Table) (g : Grid) (ns : List ℕ) where
       n = length ns / 3
 
       rest : ℕ
-      rest = failing (forbidFits (t .count) g ns) (suc i) m
+      rest = firstFailing (forbidFits (t .count) g ns) (suc i) m
 
       go : (b : Bool) → forbidFits (t .count) g ns i ≡ b → refusalFrom t g ns (suc i) ≡ cond (ltb rest n) (judged (t .count) g ns rest) 0
           → refusalFrom t g ns i ≡ cond (ltb (cond b rest i) n) (judged (t .count) g ns (cond b rest i)) 0
@@ -75,14 +75,14 @@ module _ (t : Table) (g : Grid) (ns : List ℕ) where
 
   -- so a refusal is that of the first record that is refused
   abbrev firstBad : ℕ
-  firstBad = failing (forbidFits (t .count) g ns) 0 (length ns / 3)
+  firstBad = firstFailing (forbidFits (t .count) g ns) 0 (length ns / 3)
 
   forbid-first : {n : ℕ} → firstOf (forbidTests t g (forbidsOf ns)) ≡ suc n → First (forbidFits (t .count) g ns) (length ns / 3) firstBad × (judged (t .count) g ns firstBad ≡ suc n)
   forbid-first {n} e = go (ltb firstBad (length ns / 3)) refl (sym (forbids-found (length ns / 3) 0 (omega arith)) ∙ e)
     where
       go : (b : Bool) → ltb firstBad (length ns / 3) ≡ b → cond b (judged (t .count) g ns firstBad) 0 ≡ suc n
           → First (forbidFits (t .count) g ns) (length ns / 3) firstBad × (judged (t .count) g ns firstBad ≡ suc n)
-      go true h f = (failing-first (forbidFits (t .count) g ns) (length ns / 3) (ltb-true _ _ h), f)
+      go true h f = (search-first (forbidFits (t .count) g ns) (length ns / 3) (ltb-true _ _ h), f)
       go false h f = absurd (omega arith)
 
   -- and it is 8 or 9
@@ -111,10 +111,10 @@ module _ (b : List ℕ) where
   abbrev last : List Test
   last = (badList table gives BadList) ∷ (disagree table gives Disagree) ∷ forbidTests table (sheetIn b .grid) (forbidsOf forbids)
 
-  reached : {n : ℕ} → 6 ≤ n → n ≤ 9 → sheetRefusal b ≡ n → (wellFormed b ≡ true) × (badCount (table .count) ≡ false) × Given last n
+  reached : {n : ℕ} → 6 ≤ n → n ≤ 9 → sheetRefusal b ≡ n → (wellFormed b ≡ true) × (badCount (table .count) ≡ false) × FirstIs last n
   unfolding sheetRefusal sheetTests scalarTests contentTests number
   reached {n} low high e =
-      let all : Given (formTest b ∷ sheetTests false table (sheetIn b .weights) (sheetIn b .grid) forbids) n = record { by = e } in
+      let all : FirstIs (formTest b ∷ sheetTests false table (sheetIn b .weights) (sheetIn b .grid) forbids) n = record { by = e } in
       let (form, after-form) = other 10 all refl (λ z. omega arith) in
       let (count, after-count) = other 3 after-form refl (λ z. omega arith) in
       let (size, after-size) = other 1 after-count refl (λ z. omega arith) in
@@ -124,7 +124,7 @@ module _ (b : List ℕ) where
       (not-false _ form, count, after-weights)
 
   placed : (number : ℕ) → wellFormed b ≡ true → badCount (table .count) ≡ false → placeIn number b ≡ placeAt number table (sheetIn b .grid) forbids
-  unfolding placeIn placeOf tableOf
+  unfolding placeIn sheetPlace tableOf
   placed number w c = rw (w, le-leb (length (sheetIn b .weights)) 64 (counted (length (sheetIn b .weights)) c .1))
 
   -- 6: the first list that is not as it must be
@@ -132,11 +132,11 @@ module _ (b : List ℕ) where
   unfolding placeAt listPlace badList listsOk number
   list-placed e =
       let (w, c, r) = reached (omega arith) (omega arith) e in
-      let k = failing (listFits table) 0 (4 * table .count) in
-      let within = failing-all (listFits table) (4 * table .count) (bad w (badList table) refl r) in
-      (k, failing-first (listFits table) (4 * table .count) within, placed 6 w c ∙ rw (lt-ltb k (4 * table .count) within))
+      let k = firstFailing (listFits table) 0 (4 * table .count) in
+      let within = search-all (listFits table) (4 * table .count) (bad w (badList table) refl r) in
+      (k, search-first (listFits table) (4 * table .count) within, placed 6 w c ∙ rw (lt-ltb k (4 * table .count) within))
     where
-      bad : wellFormed b ≡ true → (v : Bool) → badList table ≡ v → Given last 6 → allTo (4 * table .count) (listFits table) ≡ false
+      bad : wellFormed b ≡ true → (v : Bool) → badList table ≡ v → FirstIs last 6 → allTo (4 * table .count) (listFits table) ≡ false
       bad w false h r =
           let (agree, rest) = other 7 (past r h) refl (λ z. omega arith) in
           absurd (forbid-kind table (sheetIn b .grid) forbids (rest .by) (omega arith))
@@ -152,16 +152,16 @@ module _ (b : List ℕ) where
   pair-placed e =
       let (w, c, r) = reached (omega arith) (omega arith) e in
       let (list, rest) = other 6 r refl (λ z. omega arith) in
-      let k = failing (listAgrees table) 0 (4 * table .count) in
+      let k = firstFailing (listAgrees table) 0 (4 * table .count) in
       let l = listOf table (k / 4) (k % 4) in
-      let i = failing (answers table (k / 4) (k % 4)) 0 (length l) in
-      let within = failing-all (listAgrees table) (4 * table .count) (apart (disagree table) refl rest) in
-      let found = failing-first (listAgrees table) (4 * table .count) within in
+      let i = firstFailing (answers table (k / 4) (k % 4)) 0 (length l) in
+      let within = search-all (listAgrees table) (4 * table .count) (apart (disagree table) refl rest) in
+      let found = search-first (listAgrees table) (4 * table .count) within in
       let (j, inside, lacks) = every-fails (λ q. elem (k / 4) (listOf table q (opposite (k % 4)))) l (found .fails) in
-      let one = failing-first (answers table (k / 4) (k % 4)) (length l) (failing-some (answers table (k / 4) (k % 4)) (length l) j inside lacks) in
+      let one = search-first (answers table (k / 4) (k % 4)) (length l) (search-some (answers table (k / 4) (k % 4)) (length l) j inside lacks) in
       (k, i, found, one, placed 7 w c ∙ rw (list, lt-ltb k (4 * table .count) within))
     where
-      apart : (v : Bool) → disagree table ≡ v → Given ((disagree table gives Disagree) ∷ forbidTests table (sheetIn b .grid) (forbidsOf forbids)) 7
+      apart : (v : Bool) → disagree table ≡ v → FirstIs ((disagree table gives Disagree) ∷ forbidTests table (sheetIn b .grid) (forbidsOf forbids)) 7
           → allTo (4 * table .count) (listAgrees table) ≡ false
       apart false h r = absurd (forbid-kind table (sheetIn b .grid) forbids (past r h .by) (omega arith))
       apart true h r = not-true (agrees table) h

@@ -22,9 +22,9 @@ use Rattle.faults.specs.declared.inner.Place.the-variants as at
 -- ---- the first that fails
 
 -- of so many numbers from k on the first that fails a test, or the one past them where none does
-unfoldable pub failing : (ℕ → Bool) → ℕ → ℕ → ℕ
-failing f k zero = k
-failing f k (suc n) = cond (f k) (failing f (suc k) n) k
+unfoldable pub firstFailing : (ℕ → Bool) → ℕ → ℕ → ℕ
+firstFailing f k zero = k
+firstFailing f k (suc n) = cond (f k) (firstFailing f (suc k) n) k
 
 -- what that is below n: no number before it fails
 pub record First (f : ℕ → Bool) (n k : ℕ) : Type 0 where
@@ -51,21 +51,21 @@ answers t p d i = answersIn t p d (listOf t p d) i
 
 -- the first list that is not as it must be
 unfoldable pub listPlace : Table → Place
-unfolding failing listOf listOk
+unfolding firstFailing listOf listOk
 listPlace t =
-    let k = failing (listFits t) 0 (4 * t .count) in
+    let k = firstFailing (listFits t) 0 (4 * t .count) in
     cond (ltb k (4 * t .count)) (at.List (k / 4) (k % 4)) at.Nowhere
 
 -- the first id of p's list for d that does not answer
 unfoldable pub unanswered : Table → ℕ → ℕ → ℕ
-unfolding failing listOf elem opposite
-unanswered t p d = getD (listOf t p d) (failing (answers t p d) 0 (length (listOf t p d))) 0
+unfolding firstFailing listOf elem opposite
+unanswered t p d = getD (listOf t p d) (firstFailing (answers t p d) 0 (length (listOf t p d))) 0
 
 -- the first list that disagrees, and its first id that does; lists that are not as they must be are not held against each other
 unfoldable pub pairPlace : Table → Place
-unfolding failing agreesAt unanswered badList
+unfolding firstFailing agreesAt unanswered badList
 pairPlace t =
-    let k = failing (listAgrees t) 0 (4 * t .count) in
+    let k = firstFailing (listAgrees t) 0 (4 * t .count) in
     cond (badList t) at.Nowhere (cond (ltb k (4 * t .count)) (at.Pair (k / 4) (k % 4) (unanswered t (k / 4) (k % 4))) at.Nowhere)
 
 -- ---- forbids, record by record
@@ -81,9 +81,9 @@ forbidFits P g forbids i = eqb (judged P g forbids i) 0
 
 -- the first record that is refused: its cell, or its pattern where the cell is in the grid
 unfoldable pub forbidPlace : ℕ → Grid → List ℕ → Place
-unfolding failing judged
+unfolding firstFailing judged
 forbidPlace P g forbids =
-    let i = failing (forbidFits P g forbids) 0 (length forbids / 3) in
+    let i = firstFailing (forbidFits P g forbids) 0 (length forbids / 3) in
     cond (ltb i (length forbids / 3))
     (cond (eqb (judged P g forbids i) 8) (at.Cell i (getD forbids (3 * i) 0)) (at.Pattern i (getD forbids (3 * i + 1) 0))) at.Nowhere
 
@@ -97,11 +97,11 @@ placeAt number t g forbids =
     (cond (eqb number 7) (pairPlace t) (cond (leb 8 number && leb number 9) (forbidPlace (t .count) g forbids) at.Nowhere))
 
 -- where a sheet is wrong that has this refusal
-unfoldable pub placeOf : ℕ → Sheet → Place
+unfoldable pub sheetPlace : ℕ → Sheet → Place
 unfolding placeAt tableOf
-placeOf number s = placeAt number (tableOf s) (s .grid) (s .forbids)
+sheetPlace number s = placeAt number (tableOf s) (s .grid) (s .forbids)
 
 -- the same of bytes, of a sheet of up to 64 patterns
 unfoldable pub placeIn : ℕ → List ℕ → Place
-unfolding placeOf wellFormed sheetIn
-placeIn number b = cond (wellFormed b && leb (length (sheetIn b .weights)) 64) (placeOf number (sheetIn b)) at.Nowhere
+unfolding sheetPlace wellFormed sheetIn
+placeIn number b = cond (wellFormed b && leb (length (sheetIn b .weights)) 64) (sheetPlace number (sheetIn b)) at.Nowhere

@@ -4,7 +4,7 @@ ghost use mathlib.Core.Path.{_≡_};
 ghost use Prim.Native.Nat.{_≤_};
 ghost use Rattle.layout.specs.Reading.{countIn, wellFormed, sheetIn};
 ghost use Rattle.sheet.specs.Called.{measured};
-ghost use Rattle.faults.specs.Places.{placeOf, placeIn};
+ghost use Rattle.faults.specs.Places.{sheetPlace, placeIn};
 use layout::inner::filling::fill;
 use sheet::Measures;
 use sheet::SizesAnswer;
@@ -26,9 +26,9 @@ pub enum Place {
 }
 
 // A sheet of up to 64 patterns is read into memory of its own, whatever is wrong with it.
-fn place_of(sheet: &[u8], m: Measures, number: u32) -> Place
+fn sheet_place(sheet: &[u8], m: Measures, number: u32) -> Place
     requires { ⌜ (wellFormed (now sheet) ≡ true) × (countIn (now sheet) ≤ 64) × (m ≡ measured (sheetIn (now sheet))) ⌝ }
-    ensures { λ r. ⌜ r ≡ placeOf number (sheetIn (now (sheet .entry))) ⌝ }
+    ensures { λ r. ⌜ r ≡ sheetPlace number (sheetIn (now (sheet .entry))) ⌝ }
 {
     let mut weights = [0u32; 64];
     let mut offsets = [0u32; 257];
@@ -59,7 +59,7 @@ pub fn place_in(sheet: &[u8], number: u32) -> Place
             if 64 < m.count {
                 return Place::Nowhere;
             }
-            place_of(sheet, m, number)
+            sheet_place(sheet, m, number)
         }
     }
 }

@@ -5,7 +5,7 @@ ghost use lib.ListN.{length};
 ghost use Rattle.adjacency.specs.Tables.{table};
 ghost use Rattle.adjacency.specs.Accepted.{Laid, Listed};
 ghost use Rattle.grid.specs.Grid.{grid};
-ghost use Rattle.faults.specs.Places.{failing, listFits, listAgrees, listPlace, unanswered, pairPlace, forbidFits, forbidPlace, placeAt};
+ghost use Rattle.faults.specs.Places.{firstFailing, listFits, listAgrees, listPlace, unanswered, pairPlace, forbidFits, forbidPlace, placeAt};
 use crate::inner::Place;
 use adjacency::inner::agrees_at;
 use adjacency::inner::in_list;
@@ -18,7 +18,7 @@ use run::inner::judge;
 // The first list that is not as it must be, 4P where all are.
 fn bad_list(count: usize, offsets: &[u32], ids: &[u8]) -> usize
     requires { ⌜ Laid (table count (now offsets) (now ids)) ⌝ }
-    ensures { λ r. ⌜ r ≡ failing (listFits (table count (now (offsets .entry)) (now (ids .entry)))) 0 (4 * count) ⌝ }
+    ensures { λ r. ⌜ r ≡ firstFailing (listFits (table count (now (offsets .entry)) (now (ids .entry)))) 0 (4 * count) ⌝ }
 {
     let mut k = 0;
     while k < 4 * count {
@@ -54,7 +54,7 @@ fn wide(x: u8) -> usize
 // The first list that disagrees, 4P where none does.
 fn one_sided(count: usize, offsets: &[u32], ids: &[u8]) -> usize
     requires { ⌜ Listed (table count (now offsets) (now ids)) ⌝ }
-    ensures { λ r. ⌜ r ≡ failing (listAgrees (table count (now (offsets .entry)) (now (ids .entry)))) 0 (4 * count) ⌝ }
+    ensures { λ r. ⌜ r ≡ firstFailing (listAgrees (table count (now (offsets .entry)) (now (ids .entry)))) 0 (4 * count) ⌝ }
 {
     let mut k = 0;
     while k < 4 * count {
@@ -111,7 +111,7 @@ fn plain(x: u32) -> usize
 
 // The first forbid that is refused, by its number; as many as there are where none is.
 fn bad_forbid(forbids: &[u32], count: usize, width: usize, height: usize) -> usize
-    ensures { λ r. ⌜ ((mode : ℕ) → r ≡ failing (forbidFits count (grid width height mode) (now (forbids .entry))) 0 (length (now (forbids .entry)) / 3)) ⌝ }
+    ensures { λ r. ⌜ ((mode : ℕ) → r ≡ firstFailing (forbidFits count (grid width height mode) (now (forbids .entry))) 0 (length (now (forbids .entry)) / 3)) ⌝ }
 {
     let mut i = 0;
     while i < forbids.len() / 3 {

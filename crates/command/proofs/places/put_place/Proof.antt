@@ -2,7 +2,7 @@
 -- Assumes nothing.
 use mathlib.Core.Path.{sym}
 use borrow.Author.Needs.{needs}
-use Rattle.command.specs.Places.{placeText}
+use Rattle.command.specs.Places.{whereText}
 use Rattle.text.proofs.PageLaws.{put-none}
 use Rattle.command.proofs.SentenceLaws.{put-placed}
 use Rattle.command.proofs.places.put_place.Statement.{statement}
@@ -42,35 +42,35 @@ put-forbid-requires-2 : tie.Need-put-forbid-requires-2
 put-forbid-requires-2 c κs = search needs
 
 returns : tie.Need-returns
-unfolding placeText
+unfolding whereText
 returns c = put-placed _ (c .enum-told .given .1) (sym (put-none _))
 
 same-length : tie.Need-same-length
 same-length c = search needs
 
 returns-2 : tie.Need-returns-2
-unfolding placeText
+unfolding whereText
 returns-2 c = put-placed _ (c .before .before .before .before .before .place .given .1) (c .before .before .put-list .ensures)
 
 same-length-2 : tie.Need-same-length-2
 same-length-2 c = search needs
 
 returns-3 : tie.Need-returns-3
-unfolding placeText
+unfolding whereText
 returns-3 c = put-placed _ (c .before .before .before .before .before .place2 .given .1) (c .before .before .put-pair .ensures)
 
 same-length-3 : tie.Need-same-length-3
 same-length-3 c = search needs
 
 returns-4 : tie.Need-returns-4
-unfolding placeText
+unfolding whereText
 returns-4 c = put-placed _ (c .before .before .before .before .before .before .place3 .given .1) (c .before .before .put-forbid .ensures)
 
 same-length-4 : tie.Need-same-length-4
 same-length-4 c = search needs
 
 returns-5 : tie.Need-returns-5
-unfolding placeText
+unfolding whereText
 returns-5 c = put-placed _ (c .before .before .before .before .before .before .place4 .given .1) (c .before .before .put-forbid2 .ensures)
 
 pub put-place-spec : {M : Type 1} → statement M

@@ -28,8 +28,8 @@ returns c =
     let size = known (a .sheet .now) (formed (a .sheet .now) w) m e .count-same in
     place-many (a .number) (a .sheet .now) w (omega (arith, c .if1 .taken))
 
-place-of-requires : tie.Need-place-of-requires
-place-of-requires c κs =
+sheet-place-requires : tie.Need-sheet-place-requires
+sheet-place-requires c κs =
     let a = c .before .before .before .before .before .before .before .args in
     let m = c .before .before .before .m .given .0 .0 in
     let (w, e) = sizes-some (a .sheet .now) m (c .before .before .before .m .given .1) (c .before .before .before .before .before .sizes .ensures) in
@@ -47,9 +47,9 @@ returns-3 c =
     let m = c .before .before .before .before .m .given .0 .0 in
     let (w, e) = sizes-some (a .sheet .now) m (c .before .before .before .before .m .given .1) (c .before .before .before .before .before .before .sizes .ensures) in
     let size = known (a .sheet .now) (formed (a .sheet .now) w) m e .count-same in
-    c .place-of .ensures ∙ place-few (a .number) (a .sheet .now) w (omega (arith, c .before .if1 .left))
+    c .sheet-place .ensures ∙ place-few (a .number) (a .sheet .now) w (omega (arith, c .before .if1 .left))
 
 pub place-in-spec : {M : Type 1} → statement M
 place-in-spec =
     tie.close
-    (tie.spec sizes-requires enum-told enum-known-m returns place-of-requires returns-2 returns-3)
+    (tie.spec sizes-requires enum-told enum-known-m returns sheet-place-requires returns-2 returns-3)

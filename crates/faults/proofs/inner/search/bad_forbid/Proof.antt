@@ -5,8 +5,8 @@ use Prim.Native.Nat.{ℕ, _-_, _/_, _≤_}
 use native.Mathlib.Omega.{arith}
 use lib.ListN.{length}
 use Rattle.grid.specs.Grid.{grid}
-use Rattle.faults.specs.Places.{failing, forbidFits}
-use Rattle.faults.proofs.SearchLaws.{failing-begun, failing-turn, failing-stop, failing-end}
+use Rattle.faults.specs.Places.{firstFailing, forbidFits}
+use Rattle.faults.proofs.SearchLaws.{search-begun, search-turn, search-stop, search-end}
 use Rattle.faults.proofs.EndLaws.{forbid-fails, forbid-passes}
 use Rattle.faults.proofs.inner.search.bad_forbid.Statement.{statement}
 use Rattle.faults.proofs.inner.search.bad_forbid.Tie as tie
@@ -14,14 +14,14 @@ use Rattle.faults.proofs.inner.search.bad_forbid.Tie as tie
 abbrev Inv-loop : tie.InvT-loop
 Inv-loop forbids count width height i₀ i =
     (i ≤ length forbids / 3)
-    × ((mode : ℕ) → failing (forbidFits count (grid width height mode) forbids) i (length forbids / 3 - i)
-    ≡ failing (forbidFits count (grid width height mode) forbids) 0 (length forbids / 3))
+    × ((mode : ℕ) → firstFailing (forbidFits count (grid width height mode) forbids) i (length forbids / 3 - i)
+    ≡ firstFailing (forbidFits count (grid width height mode) forbids) 0 (length forbids / 3))
 
 abbrev μ-loop : tie.MeasureT-loop
 μ-loop forbids count width height i₀ i = length forbids / 3 - i
 
 loop-holds : tie.Need-loop-holds Inv-loop μ-loop
-loop-holds c = (omega arith, λ mode. failing-begun _ _)
+loop-holds c = (omega arith, λ mode. search-begun _ _)
 
 mul-judge : tie.Need-mul-judge Inv-loop μ-loop
 mul-judge c = omega arith
@@ -49,7 +49,7 @@ judge-requires c κs = tt
 
 returns : tie.Need-returns Inv-loop μ-loop
 returns c = λ mode.
-    failing-stop _ _ (c .before .before .before .before .before .loop .inv .1 mode) (c .before .before .before .before .loop-test .taken)
+    search-stop _ _ (c .before .before .before .before .before .loop .inv .1 mode) (c .before .before .before .before .loop-test .taken)
     (forbid-fails _ _ _ _ (c .before .judge .ensures mode) (c .if1 .taken))
 
 add-i : tie.Need-add-i Inv-loop μ-loop
@@ -62,12 +62,12 @@ loop-again : tie.Need-loop-again Inv-loop μ-loop
 loop-again c = (
   omega arith,
   λ mode.
-      failing-turn _ _ (c .before .before .before .before .before .loop .inv .1 mode) (c .before .before .before .before .loop-test .taken)
+      search-turn _ _ (c .before .before .before .before .before .loop .inv .1 mode) (c .before .before .before .before .loop-test .taken)
       (forbid-passes _ _ _ _ (c .before .judge .ensures mode) (c .if1 .left)),
 )
 
 returns-2 : tie.Need-returns-2 Inv-loop μ-loop
-returns-2 c = λ mode. failing-end _ _ (c .before .loop .inv .1 mode) (c .loop-test .left)
+returns-2 c = λ mode. search-end _ _ (c .before .loop .inv .1 mode) (c .loop-test .left)
 
 pub bad-forbid-spec : {M : Type 1} → statement M
 bad-forbid-spec =

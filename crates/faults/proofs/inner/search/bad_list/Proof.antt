@@ -6,14 +6,14 @@ use native.Mathlib.Omega.{arith}
 use borrow.Author.Tests.{not-true, not-false}
 use Rattle.adjacency.specs.Tables.{table}
 use Rattle.adjacency.specs.Checks.{listOk}
-use Rattle.faults.specs.Places.{failing, listFits}
-use Rattle.faults.proofs.SearchLaws.{failing-begun, failing-turn, failing-stop, failing-end}
+use Rattle.faults.specs.Places.{firstFailing, listFits}
+use Rattle.faults.proofs.SearchLaws.{search-begun, search-turn, search-stop, search-end}
 use Rattle.faults.proofs.inner.search.bad_list.Statement.{statement}
 use Rattle.faults.proofs.inner.search.bad_list.Tie as tie
 
 abbrev Inv-loop : tie.InvT-loop
 Inv-loop count offsets ids k₀ k =
-    (k ≤ 4 * count) × (failing (listFits (table count offsets ids)) k (4 * count - k) ≡ failing (listFits (table count offsets ids)) 0 (4 * count))
+    (k ≤ 4 * count) × (firstFailing (listFits (table count offsets ids)) k (4 * count - k) ≡ firstFailing (listFits (table count offsets ids)) 0 (4 * count))
 
 abbrev μ-loop : tie.MeasureT-loop
 μ-loop count offsets ids k₀ k = 4 * count - k
@@ -25,7 +25,7 @@ looked : (c : tie.After-list-ok Inv-loop μ-loop) →
 looked c = ap (listOk _) (sym (c .before .list-of .ensures)) ∙ sym (c .list-ok .ensures)
 
 loop-holds : tie.Need-loop-holds Inv-loop μ-loop
-loop-holds c = (omega arith, failing-begun _ _)
+loop-holds c = (omega arith, search-begun _ _)
 
 mul-loop : tie.Need-mul-loop Inv-loop μ-loop
 mul-loop c = omega (arith, c .before .before .before .pre .long)
@@ -39,7 +39,7 @@ list-ok-requires c κs = tt
 returns : tie.Need-returns Inv-loop μ-loop
 returns c =
     let turn = c .before .before .before in
-    failing-stop _ _ (turn .before .loop .inv .1) (turn .loop-test .taken) (looked (c .before) ∙ not-true _ (c .if1 .taken))
+    search-stop _ _ (turn .before .loop .inv .1) (turn .loop-test .taken) (looked (c .before) ∙ not-true _ (c .if1 .taken))
 
 add-k : tie.Need-add-k Inv-loop μ-loop
 add-k c = omega arith
@@ -50,10 +50,10 @@ loop-less c = omega arith
 loop-again : tie.Need-loop-again Inv-loop μ-loop
 loop-again c =
     let turn = c .before .before .before in
-    (omega arith, failing-turn _ _ (turn .before .loop .inv .1) (turn .loop-test .taken) (looked (c .before) ∙ not-false _ (c .if1 .left)))
+    (omega arith, search-turn _ _ (turn .before .loop .inv .1) (turn .loop-test .taken) (looked (c .before) ∙ not-false _ (c .if1 .left)))
 
 returns-2 : tie.Need-returns-2 Inv-loop μ-loop
-returns-2 c = failing-end _ _ (c .before .loop .inv .1) (c .loop-test .left)
+returns-2 c = search-end _ _ (c .before .loop .inv .1) (c .loop-test .left)
 
 pub bad-list-spec : {M : Type 1} → statement M
 bad-list-spec =

@@ -8,17 +8,17 @@ use borrow.Author.Tests.{not-true, not-false}
 use Rattle.loops.specs.Tests.{elem}
 use Rattle.directions.specs.Directions.{opposite}
 use Rattle.adjacency.specs.Tables.{table, listOf}
-use Rattle.faults.specs.Places.{failing, answersIn}
+use Rattle.faults.specs.Places.{firstFailing, answersIn}
 use Rattle.directions.proofs.DirectionLaws.{opposite-below}
 use Rattle.adjacency.proofs.ListLaws.{allBelow-at}
-use Rattle.faults.proofs.SearchLaws.{failing-begun, failing-turn, failing-stop, failing-end}
+use Rattle.faults.proofs.SearchLaws.{search-begun, search-turn, search-stop, search-end}
 use Rattle.faults.proofs.EndLaws.{unanswered-is}
 use Rattle.faults.proofs.inner.search.unanswered.Statement.{statement}
 use Rattle.faults.proofs.inner.search.unanswered.Tie as tie
 
 abbrev Inv-loop : tie.InvT-loop
 Inv-loop count offsets ids p d list back i₀ i =
-    (i ≤ length list) × (failing (answersIn (table count offsets ids) p d list) i (length list - i) ≡ failing (answersIn (table count offsets ids) p d list) 0 (length list))
+    (i ≤ length list) × (firstFailing (answersIn (table count offsets ids) p d list) i (length list - i) ≡ firstFailing (answersIn (table count offsets ids) p d list) 0 (length list))
 
 abbrev μ-loop : tie.MeasureT-loop
 μ-loop count offsets ids p d list back i₀ i = length list - i
@@ -44,7 +44,7 @@ opposite-of-requires : tie.Need-opposite-of-requires Inv-loop μ-loop
 opposite-of-requires c κs = c .before .before .before .pre .2
 
 loop-holds : tie.Need-loop-holds Inv-loop μ-loop
-loop-holds c = (omega arith, failing-begun _ _)
+loop-holds c = (omega arith, search-begun _ _)
 
 shared-slice-read-wide : tie.Need-shared-slice-read-wide Inv-loop μ-loop
 shared-slice-read-wide c = omega arith
@@ -71,7 +71,7 @@ returns : tie.Need-returns Inv-loop μ-loop
 returns c =
     let turn = c .before .before .before .before .before in
     unanswered-is _ _ _ (turn .before .before .before .list-of .ensures)
-    (failing-stop _ _ (turn .before .loop .inv .1) (turn .loop-test .taken) (found (c .before) ∙ not-true _ (c .if1 .taken)))
+    (search-stop _ _ (turn .before .loop .inv .1) (turn .loop-test .taken) (found (c .before) ∙ not-true _ (c .if1 .taken)))
     (c .before .before .before .wide .ensures)
 
 add-i : tie.Need-add-i Inv-loop μ-loop
@@ -83,12 +83,12 @@ loop-less c = omega arith
 loop-again : tie.Need-loop-again Inv-loop μ-loop
 loop-again c =
     let turn = c .before .before .before .before .before in
-    (omega arith, failing-turn _ _ (turn .before .loop .inv .1) (turn .loop-test .taken) (found (c .before) ∙ not-false _ (c .if1 .left)))
+    (omega arith, search-turn _ _ (turn .before .loop .inv .1) (turn .loop-test .taken) (found (c .before) ∙ not-false _ (c .if1 .left)))
 
 returns-2 : tie.Need-returns-2 Inv-loop μ-loop
 returns-2 c =
     let l = c .before .before .before .list-of in
-    unanswered-is _ _ _ (l .ensures) (failing-end _ _ (c .before .loop .inv .1) (c .loop-test .left))
+    unanswered-is _ _ _ (l .ensures) (search-end _ _ (c .before .loop .inv .1) (c .loop-test .left))
     (sym (List·getD-eq-default (l .result .now) 0 (c .loop-test .left)))
 
 pub unanswered-spec : {M : Type 1} → statement M

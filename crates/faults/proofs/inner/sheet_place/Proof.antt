@@ -1,4 +1,4 @@
--- `faults::inner::place_of` meets its contract: what was read is searched.
+-- `faults::inner::sheet_place` meets its contract: what was read is searched.
 -- Assumes nothing.
 use mathlib.Core.Path.{sym, ap, _∙_}
 use Prim.Native.Nat.{_+_, _*_, _≤_}
@@ -11,8 +11,8 @@ use Rattle.layout.proofs.ReadingLaws.{roomy-own, count-is}
 use Rattle.sheet.proofs.MeasureLaws.{Known, known, Parts, read-parts, part-fits}
 use Rattle.faults.proofs.SheetLaws.{sheet-laid}
 use Rattle.faults.proofs.EndLaws.{laid-read, place-read}
-use Rattle.faults.proofs.inner.place_of.Statement.{statement}
-use Rattle.faults.proofs.inner.place_of.Tie as tie
+use Rattle.faults.proofs.inner.sheet_place.Statement.{statement}
+use Rattle.faults.proofs.inner.sheet_place.Tie as tie
 
 -- what is read
 measures : (c : tie.After-struct-known) → let start = c .before .before .before .before .before .before .before .before .before .before .before in Known (sheetIn (start .args .sheet .now)) (start .args .m)
@@ -85,8 +85,8 @@ returns c =
     c .place-at .ensures (start .args .m .mode)
     ∙ place-read (sheetIn (start .args .sheet .now)) (start .args .m) (start .pre .2) (P .offsets-in) (P .ids-in) (start .args .number) (P .forbids-in)
 
-pub place-of-spec : {M : Type 1} → statement M
-place-of-spec =
+pub sheet-place-spec : {M : Type 1} → statement M
+sheet-place-spec =
     tie.close
     (tie.spec
     slice-aggregate-fill

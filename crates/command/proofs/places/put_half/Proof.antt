@@ -1,10 +1,10 @@
--- `command::places::put_beside` meets its contract: its parts in a row.
+-- `command::places::put_half` meets its contract: its parts in a row.
 -- Assumes nothing.
 use borrow.Author.Needs.{needs}
-use Rattle.command.specs.Places.{besideText}
+use Rattle.command.specs.Places.{halfText}
 use Rattle.text.proofs.PageLaws.{puts}
-use Rattle.command.proofs.places.put_beside.Statement.{statement}
-use Rattle.command.proofs.places.put_beside.Tie as tie
+use Rattle.command.proofs.places.put_half.Statement.{statement}
+use Rattle.command.proofs.places.put_half.Tie as tie
 
 put-text-requires : tie.Need-put-text-requires
 put-text-requires c κs = search needs
@@ -31,11 +31,11 @@ same-length : tie.Need-same-length
 same-length c = search needs
 
 returns : tie.Need-returns
-unfolding besideText
+unfolding halfText
 returns c = puts _ _ _ _ _ (puts _ _ _ _ _ (puts _ _ _ _ _ (puts _ _ _ _ _ (puts _ _ _ _ _ (c .before .before .before .before .before .before .before .before .before .before .before .before .before .before .before .before .before .before .before .before .before .before .before .put-text .ensures) (c .before .before .before .before .before .before .before .before .before .before .before .before .before .before .before .before .before .before .before .put-decimal .ensures)) (c .before .before .before .before .before .before .before .before .before .before .before .before .before .before .before .put-text2 .ensures)) (c .before .before .before .before .before .before .before .before .before .before .before .put-line .ensures)) (c .before .before .before .before .before .before .put-text3 .ensures)) (c .before .before .put-decimal2 .ensures)
 
-pub put-beside-spec : {M : Type 1} → statement M
-put-beside-spec =
+pub put-half-spec : {M : Type 1} → statement M
+put-half-spec =
     tie.close
     (tie.spec
     put-text-requires
