@@ -251,10 +251,11 @@ def long_refusal(sheet):
     return u16s([3 if well_formed(sheet) else 10])
 
 
-def ragged(count):
-    """A sheet of so many patterns, with lists of every length."""
-    lists = b"".join(bytes([37 * n % 256]) + bytes(37 * n % 256) for n in range(4 * count))
-    return record(1, u16s([count] + [1] * count)) + record(2, lists) + record(3, u16s([1, 1, 0])) + record(4, b"")
+def varied(kind):
+    """A sheet of 180 patterns, with lists of every length and 1,000 forbids, of which the last has this kind. Much of it lies past what is held."""
+    lists = b"".join(bytes([37 * n % 256]) + bytes((n + i) % 256 for i in range(37 * n % 256)) for n in range(4 * 180))
+    forbids = [x for n in range(999) for x in (n, n, n % 2)] + [1, 1, kind]
+    return record(1, u16s([180] + [1] * 180)) + record(2, lists) + record(3, u16s([1, 1, 0])) + record(4, u16s(forbids))
 
 
 def longest(count):
@@ -296,7 +297,7 @@ def replay():
     assert len(longest(64)) == HELD
     cases += [(replayed(longest(64), noise, words), u16s([6]))]
     # of these all bytes are judged: two sheets of over 64 patterns, one that says so in bytes that do not fit it, and one that says nothing
-    long = [longest(65), ragged(190), record(1, u16s([65] + [0] * 65)) + bytes(HELD - 137), bytes(HELD + 1)]
+    long = [longest(65), varied(1), varied(2), varied(1)[:-1], varied(1) + b"\0", record(1, u16s([65] + [0] * 65)) + bytes(HELD - 137), bytes(HELD + 1)]
     cases += [(replayed(b, noise, words), long_refusal(b)) for b in long] + [(replayed(sheet, noise, words), done(whole))]
     # at the size that is taken, 4,096 cells times patterns, and just past it, which is told before the noise is looked at
     cases += [chosen(free(4, 32, 32)), chosen(free(4, 32, 32), left=1), chosen(free(64, 8, 8)), (replayed(sheet_bytes(free(41, 10, 10)), [], []), u16s([TOO_LARGE]))]

@@ -41,6 +41,12 @@ def longest(count):
     return sheet([1] * count, [bytes(255)] * (4 * count), 1, 1, 0, [(0, 0, 0)] * 4096)
 
 
+def varied(kind):
+    """A sheet of 180 patterns, with lists of every length and 1,000 forbids, of which the last has this kind. Much of it lies past what is held."""
+    lists = [bytes((n + i) % 256 for i in range(37 * n % 256)) for n in range(4 * 180)]
+    return sheet([1] * 180, lists, 1, 1, 0, [(n, n, n % 2) for n in range(999)] + [(1, 1, kind)])
+
+
 def alone(count, width, height):
     """Each pattern stands beside itself alone."""
     return sheet([1] * count, [[p] for p in range(count) for _ in range(4)], width, height, 3)
@@ -73,7 +79,10 @@ FILES = {
     "large-and-wrong.sheet": sheet([1] * 5, FALLING, 32, 32, 0),
     "90272.sheet": longest(64),
     "91298.sheet": longest(65),
-    "96428.sheet": longest(70),
+    "varied.sheet": varied(1),
+    "varied-kind.sheet": varied(2),
+    "varied-cut.sheet": varied(1)[:-1],
+    "varied-more.sheet": varied(1) + b"\0",
     "90273.sheet": record(1, pack("<H", 65) + bytes(130)) + bytes(90273 - 138),
     "eight.noise": words(5, 3, 8, 1, 9, 2, 7, 4),
     "seven.noise": words(5, 3, 8, 1, 9, 2, 7),
@@ -159,7 +168,10 @@ free.sheet long.noise eight.words refused.result
 --seed 3 empty.sheet refused.result
 --seed 3 90272.sheet refused.result
 --seed 3 91298.sheet refused.result
---seed 3 96428.sheet refused.result
+--seed 3 varied.sheet refused.result
+--seed 3 varied-kind.sheet refused.result
+--seed 3 varied-cut.sheet refused.result
+--seed 3 varied-more.sheet refused.result
 --seed 3 90273.sheet refused.result
 --seed 3 /dev/zero refused.result
 --seed 3 4100.sheet refused.result

@@ -105,7 +105,7 @@ formed (Lists left lists) = false
 formed (Ids ids left lists) = false
 formed (Forbids left) = eqb left 0
 
--- none that begins with them is
+-- they are known to be none, whatever follows
 unfoldable pub bad : Scan → Bool
 bad Bad = true
 bad (Head kind lists at size) = false

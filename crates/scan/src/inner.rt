@@ -219,7 +219,7 @@ pub fn formed(state: Scan) -> bool
     left == 0
 }
 
-// Whether none that begins with them is.
+// Whether they are known to be none, whatever follows.
 pub fn bad(state: Scan) -> bool
     ensures { λ r. ⌜ r ≡ bad state ⌝ }
 {

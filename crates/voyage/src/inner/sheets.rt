@@ -45,7 +45,7 @@ fn piece(fd: i32, state: Scan) -> Progress
     }
 }
 
-// The rest of a file, up to its end, a read that fails, or bytes with which no sheet begins.
+// The rest of a file, up to its end, a read that fails, or a piece after which they are known to be no sheet.
 // A proved loop has to end, and nothing says that a file does: the turns are counted down from a number that no file uses up.
 fn rest(fd: i32, state: Scan) -> Progress
     ensures { λ r. ⌜ Reached state (r .state) ⌝ }
@@ -79,7 +79,7 @@ fn longer(fd: i32, front: &[u8]) -> Kept
 // Whether a file that gave no more bytes came to its end: a read that failed gave none either, and fails again.
 fn ended(fd: i32) -> bool {
     let mut one = [0u8; 1];
-    libc::read(fd, &mut one) >= 0
+    libc::read(fd, &mut one) == 0
 }
 
 // An open file, read to its end.
