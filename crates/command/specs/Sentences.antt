@@ -20,7 +20,7 @@ refusalText number place = ascii "ocean: refused: " ++ decimal number ++ (32 ∷
 
 -- what is wrong with what is asked, one to a line, from 0 for nothing
 unfoldable pub faults : List ℕ
-faults = ascii "\n--seed wants a number from 0 to 4294967295 after it\n--svg wants the name of a file after it\nthere is no such option, only these: ocean [--svg FILE] [--seed N] [SHEET [NOISE WORDS] [RESULT]]\nthere are more files than SHEET NOISE WORDS RESULT, or with --seed than SHEET RESULT\na sheet wants its noise and its words, as in: ocean SHEET NOISE WORDS, or a seed, as in: ocean --seed 7 SHEET\nwith --seed there is no noise and no words, as in: ocean --seed 7 SHEET RESULT\nRESULT and the picture want names of their own, and one of them has the name of another file here\nthis program takes up to 4,096 cells times patterns, and the sheet has more\nthe name of a file is empty, or longer than 4,096 bytes"
+faults = ascii "\n--seed wants a number from 0 to 4294967295 after it\n--svg wants the name of a file after it\nthere is no such option, only these: ocean [--svg FILE] [--seed N [SHEET [RESULT]]], or: ocean [--svg FILE] SHEET NOISE WORDS [RESULT]\nthere are more files than SHEET NOISE WORDS RESULT, or with --seed than SHEET RESULT\na sheet wants its noise and its words, as in: ocean SHEET NOISE WORDS, or a seed, as in: ocean --seed 7 SHEET\nwith --seed there is no noise and no words, as in: ocean --seed 7 SHEET RESULT\nRESULT and the picture want names of their own, and one of them has the name of another file here\nthis program takes up to 4,096 cells times patterns, and the sheet has more\nthe name of a file is empty, or longer than 4,096 bytes"
 
 -- what is wrong with what is asked, by the fault's number
 unfoldable pub faultText : ℕ → List ℕ
@@ -28,7 +28,7 @@ faultText fault = ascii "ocean: " ++ line fault faults ++ ascii ".\n"
 
 -- what is wrong with a file, one to a line, from 0 for nothing
 unfoldable pub fileFaults : List ℕ
-fileFaults = ascii "\nthere is no such file or folder\nthis is a folder, not a file\nthis may not be opened\nthis cannot be opened, read or written\nthis ends within a word, and noise and words are files of 32-bit words\nthis could not be written to its end"
+fileFaults = ascii "\nthere is no such file, or no such folder on the way to it\nthis names a folder, not a file\nthis may not be opened\nthis cannot be opened, read or written\nthis ends within a word, and noise and words are files of 32-bit words\nthis could not be written to its end"
 
 -- a byte of a name as it is shown: a question mark for what would not stay in the line, or would steer a terminal
 unfoldable pub shownByte : ℕ → ℕ

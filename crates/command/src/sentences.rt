@@ -52,7 +52,7 @@ pub fn put_fault(fault: usize, at: usize, out: &mut [u8]) -> usize
 {
     let a = put_text(b"ocean: ", at, out);
     let b = put_line(
-        b"\n--seed wants a number from 0 to 4294967295 after it\n--svg wants the name of a file after it\nthere is no such option, only these: ocean [--svg FILE] [--seed N] [SHEET [NOISE WORDS] [RESULT]]\nthere are more files than SHEET NOISE WORDS RESULT, or with --seed than SHEET RESULT\na sheet wants its noise and its words, as in: ocean SHEET NOISE WORDS, or a seed, as in: ocean --seed 7 SHEET\nwith --seed there is no noise and no words, as in: ocean --seed 7 SHEET RESULT\nRESULT and the picture want names of their own, and one of them has the name of another file here\nthis program takes up to 4,096 cells times patterns, and the sheet has more\nthe name of a file is empty, or longer than 4,096 bytes",
+        b"\n--seed wants a number from 0 to 4294967295 after it\n--svg wants the name of a file after it\nthere is no such option, only these: ocean [--svg FILE] [--seed N [SHEET [RESULT]]], or: ocean [--svg FILE] SHEET NOISE WORDS [RESULT]\nthere are more files than SHEET NOISE WORDS RESULT, or with --seed than SHEET RESULT\na sheet wants its noise and its words, as in: ocean SHEET NOISE WORDS, or a seed, as in: ocean --seed 7 SHEET\nwith --seed there is no noise and no words, as in: ocean --seed 7 SHEET RESULT\nRESULT and the picture want names of their own, and one of them has the name of another file here\nthis program takes up to 4,096 cells times patterns, and the sheet has more\nthe name of a file is empty, or longer than 4,096 bytes",
         fault,
         a,
         out,
@@ -94,7 +94,7 @@ pub fn put_file_fault(name: &[u8], fault: usize, at: usize, out: &mut [u8]) -> u
     let b = put_name(name, a, out);
     let c = put_text(b": ", b, out);
     let d = put_line(
-        b"\nthere is no such file or folder\nthis is a folder, not a file\nthis may not be opened\nthis cannot be opened, read or written\nthis ends within a word, and noise and words are files of 32-bit words\nthis could not be written to its end",
+        b"\nthere is no such file, or no such folder on the way to it\nthis names a folder, not a file\nthis may not be opened\nthis cannot be opened, read or written\nthis ends within a word, and noise and words are files of 32-bit words\nthis could not be written to its end",
         fault,
         c,
         out,
