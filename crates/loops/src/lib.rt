@@ -1,1 +1,3 @@
 // What a loop computes: definitions and laws alone, for every crate above.
+
+#![tactic(auto)]

@@ -1,5 +1,7 @@
 // The practice ocean that is built in: wind regimes from pole to pole on a grid whose east edge meets its west edge.
 // Written as a sheet, so that it is read, checked and laid as any other. Its bytes come from tools/practice.py.
+#![tactic(auto)]
+
 ghost use Rattle.std.specs.Prelude.{◌≡◌};
 ghost use Rattle.text.specs.Pages.{page, put};
 ghost use Rattle.practice.specs.Bytes.{bytes};

@@ -1,6 +1,8 @@
 // The eleven refusals, and the verdict of a call that only accepts or refuses.
 // Follows docs/RULES.md, "Refusals". Main property: each refusal has one number, and `first_of` names the first whose test holds.
 
+#![tactic(auto)]
+
 pub mod inner;
 
 // Why a call is refused.

@@ -2,6 +2,8 @@
 // Main property: what is filled is `drawn`, so one seed gives one ocean on every machine.
 // The mixer is the 32-bit finaliser of MurmurHash3, and the step that of the golden ratio: both are used widely and mix well.
 // This is no source of secrets.
+#![tactic(auto)]
+
 ghost use Rattle.std.specs.Prelude.{◌≡◌, ◌+◌, ◌*◌, ◌/◌, ◌%◌, ◌^◌, ◌<◌, length, bit_xor, slice_index};
 ghost use Rattle.seed.specs.Seeds.{stepped, mixed, strip, drawn, both, drawn_both};
 ghost use Rattle.seed.specs.Strips.{word_at, words_in};

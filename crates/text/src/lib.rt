@@ -1,6 +1,8 @@
 // Text put on a lent page: bytes one after the other from a place on, and the next place as the answer. What does not fit is left out.
 // Main property: each call puts exactly the text that its definition names, so texts put in a row are one text (`put-append`),
 // and a text that fits stands there whole (`put-fits`).
+#![tactic(auto)]
+
 ghost use Rattle.std.specs.Prelude.{◌≡◌, ◌∷◌, [], ◌+◌, ◌-◌, ◌<◌, length, replicate};
 ghost use Rattle.text.specs.Pages.{page, put, line};
 ghost use Rattle.text.specs.Numbers.{digits, decimal, aligned, padded};

@@ -4,8 +4,7 @@ use mathlib.Core.Path.{◌≡◌, sym}
 use Prim.Native.Nat.{ℕ, suc, ◌≤◌}
 use native.Mathlib.Omega.{arith}
 use Rattle.refusals.specs.Refusals.{number}
-use Rattle.refusals.proofs.inner.refusal.Statement.{statement}
-use Rattle.refusals.proofs.inner.refusal.Tie as tie
+use Rattle.refusals.proofs.inner.refusal.Goals as goal
 
 past : (k n : ℕ) → k ≤ n → (n ≡ k → ⊥) → suc k ≤ n
 past k n h e = omega (arith, e)
@@ -20,62 +19,46 @@ last : (n : ℕ) → 1 ≤ n → n ≤ 11
 last n h k ((((((((((u, a), b), c), d), e), f), g), i), j), l) =
     most n (past 10 n (past 9 n (past 8 n (past 7 n (past 6 n (past 5 n (past 4 n (past 3 n (past 2 n (past 1 n h a) b) c) d) e) f) g) i) j) l) k
 
-returns : tie.Need-returns
+pub returns-in-1 : goal.returns-in-1
 unfolding number
-returns c = sym c.match.keys1
+returns-in-1 c = sym c.in-1.is
 
-returns-2 : tie.Need-returns-2
+pub returns-in-2 : goal.returns-in-2
 unfolding number
-returns-2 c = sym c.match.keys2
+returns-in-2 c = sym c.in-2.is
 
-returns-3 : tie.Need-returns-3
+pub returns-in-3 : goal.returns-in-3
 unfolding number
-returns-3 c = sym c.match.keys3
+returns-in-3 c = sym c.in-3.is
 
-returns-4 : tie.Need-returns-4
+pub returns-in-4 : goal.returns-in-4
 unfolding number
-returns-4 c = sym c.match.keys4
+returns-in-4 c = sym c.in-4.is
 
-returns-5 : tie.Need-returns-5
+pub returns-in-5 : goal.returns-in-5
 unfolding number
-returns-5 c = sym c.match.keys5
+returns-in-5 c = sym c.in-5.is
 
-returns-6 : tie.Need-returns-6
+pub returns-in-6 : goal.returns-in-6
 unfolding number
-returns-6 c = sym c.match.keys6
+returns-in-6 c = sym c.in-6.is
 
-returns-7 : tie.Need-returns-7
+pub returns-in-7 : goal.returns-in-7
 unfolding number
-returns-7 c = sym c.match.keys7
+returns-in-7 c = sym c.in-7.is
 
-returns-8 : tie.Need-returns-8
+pub returns-in-8 : goal.returns-in-8
 unfolding number
-returns-8 c = sym c.match.keys8
+returns-in-8 c = sym c.in-8.is
 
-returns-9 : tie.Need-returns-9
+pub returns-in-9 : goal.returns-in-9
 unfolding number
-returns-9 c = sym c.match.keys9
+returns-in-9 c = sym c.in-9.is
 
-returns-10 : tie.Need-returns-10
+pub returns-in-10 : goal.returns-in-10
 unfolding number
-returns-10 c = sym c.match.keys10
+returns-in-10 c = sym c.in-10.is
 
-returns-11 : tie.Need-returns-11
+pub returns-in_default : goal.returns-in_default
 unfolding number
-returns-11 c = last _ c.before.requires.0 c.before.requires.1 c.match.rest
-
-pub refusal-spec : {M : Type 1} → statement M
-refusal-spec =
-    tie.close
-    (tie.spec
-    returns
-    returns-2
-    returns-3
-    returns-4
-    returns-5
-    returns-6
-    returns-7
-    returns-8
-    returns-9
-    returns-10
-    returns-11)
+returns-in_default c = last _ c.requires.0 c.requires.1 c.in_default.in_default-own.rest
