@@ -2,16 +2,12 @@
 -- Assumes nothing.
 use native.Mathlib.Omega.{arith}
 use Rattle.words.proofs.CountLaws.{ones-many, many-le}
-use Rattle.words.proofs.inner.count_ones.Statement.{statement}
-use Rattle.words.proofs.inner.count_ones.Tie as tie
+use Rattle.words.proofs.inner.count_ones.Goals as goal
 
-cast-result : tie.Need-overflow-cast-result
-cast-result c =
+pub overflow_cast-result : goal.overflow_cast-result
+overflow_cast-result c =
     let a = c.args in
     record { fits = omega (arith, ones-many 64 a.word c.ranges.word.fits, many-le 64 a.word) }
 
-returns : tie.Need-returns
+pub returns : goal.returns
 returns c = ones-many 64 c.args.word c.ranges.word.fits
-
-pub count-ones-spec : {M : Type 1} → statement M
-count-ones-spec = tie.close (tie.spec cast-result returns)
