@@ -1,6 +1,8 @@
 // The grid: sizes, wrap modes and neighbours.
 // Follows docs/RULES.md, "Grid"; stands for `Wrap`, `Coord` and `Grid` of the Rust.
 // Main property: a step and the step in the opposite direction undo each other, at wrapped sides of length 1 and 2 too.
+#![tactic(auto)]
+
 ghost use Rattle.std.specs.Prelude.{◌≡◌};
 ghost use Rattle.grid.specs.Grid.{grid};
 ghost use Rattle.grid.specs.Answers.{near_of, neighbour_asked};

@@ -8,15 +8,13 @@ use native.Mathlib.Numerals.{add-one}
 use native.Mathlib.Omega.{arith}
 use lib.IntN.{ℤ, pos, negsuc}
 use lib.Signed.{lt_z}
-use borrow.Author.Rules.{rules}
 use borrow.Author.Tests.{lt-ltb, le-ltb}
 use mir.Syntax.{w8}
 use mir.Val.{SFits, to_z, of_z}
 use mir.ValLaws.{to_z-of_z}
 use Rattle.grid.specs.Answers.{place_of}
 use Rattle.grid.specs.Grid.{round, after, before, along}
-use Rattle.grid.proofs.inner.along.Statement.{statement}
-use Rattle.grid.proofs.inner.along.Tie as tie
+use Rattle.grid.proofs.inner.along.Goals as goal
 
 -- the definition by the sign of the step
 by_sign : (w : Bool) (n i : ℕ) (s : ℤ) → along w n i s ≡ cond (lt_z (pos 0) s) (after w n i) (cond (lt_z s (pos 0)) (before w n i) (some i))
@@ -45,39 +43,22 @@ unfolding before
 before-inside w n zero h = absurd (h refl)
 before-inside w n (suc i) h = ap some (omega arith)
 
-returns : tie.Need-returns
+pub returns-then-place-length : goal.returns-then-place-length
 unfolding place_of
-returns c = rw (by_tests _ _ _ _ c.before.before.ranges.step, c.before.if1.true, after-inside _ _ _ c.if2.true)
+returns-then-place-length c = rw (by_tests _ _ _ _ c.ranges.step, c.if-step-gt0.true, after-inside _ _ _ c.if-place-length.true)
 
-returns-2 : tie.Need-returns-2
-returns-2 c = rw (by_tests _ _ _ _ c.before.before.before.ranges.step, c.before.before.if1.true, after-end _ _ _ c.before.if2.false) c.round.ensures
+pub returns-then-step-gt0 : goal.returns-then-step-gt0
+returns-then-step-gt0 c = rw (by_tests _ _ _ _ c.ranges.step, c.if-step-gt0.true, after-end _ _ _ c.if-place-length.false) c.round.ensures
 
-returns-3 : tie.Need-returns-3
+pub returns-then-place-eq0 : goal.returns-then-place-eq0
 unfolding before
-returns-3 c =
-    let s = c.before.before.before in
-    rw (by_tests _ _ _ _ s.before.ranges.step, s.if1.false, c.before.before.if3.true, c.before.if4.true) c.round2.ensures
+returns-then-place-eq0 c =
+    rw (by_tests _ _ _ _ c.ranges.step, c.if-step-gt0.false, c.if-step-lt0.true, c.if-place-eq0.true) c.round-then-place-eq0.ensures
 
-returns-4 : tie.Need-returns-4
+pub returns-then-step-lt0 : goal.returns-then-step-lt0
 unfolding place_of
-returns-4 c = rw (by_tests _ _ _ _ c.before.before.before.ranges.step, c.before.before.if1.false, c.before.if3.true, before-inside _ _ _ c.if4.false)
+returns-then-step-lt0 c = rw (by_tests _ _ _ _ c.ranges.step, c.if-step-gt0.false, c.if-step-lt0.true, before-inside _ _ _ c.if-place-eq0.false)
 
-returns-5 : tie.Need-returns-5
+pub returns : goal.returns
 unfolding place_of
-returns-5 c = rw (by_tests _ _ _ _ c.before.before.ranges.step, c.before.if1.false, c.if3.false)
-
-pub along-spec : {M : Type 1} → statement M
-along-spec =
-    tie.close
-    (tie.spec
-    (λ c. search rules)
-    (λ c. search rules)
-    returns
-    (λ c κs. search rules)
-    returns-2
-    (λ c. search rules)
-    (λ c κs. search rules)
-    returns-3
-    (λ c. search rules)
-    returns-4
-    returns-5)
+returns c = rw (by_tests _ _ _ _ c.ranges.step, c.if-step-gt0.false, c.if-step-lt0.false)
