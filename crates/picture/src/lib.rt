@@ -1,4 +1,6 @@
 // The picture of an ocean, as SVG: a square for each cell, coloured by its pattern. Each call puts the text of one definition.
+#![tactic(auto)]
+
 ghost use Rattle.std.specs.Prelude.{◌≡◌, ◌+◌, ◌<◌, ◌≤◌};
 ghost use Rattle.text.specs.Pages.{page, put, texts};
 ghost use Rattle.picture.specs.Picture.{part, colour_text, square_text, place_text, fill_text, told_text, mark_text, tile_text, tiles_text, picture_row, stroke_text, upright_text, level_text, size_text, key_text, foot_text, head_text, beside_text, caption_text, swatch_text, shown_text, tail_text};

@@ -1,0 +1,27 @@
+-- `chart::picture::put_tiles` meets its contract. The invariant: the cells that are left, put on the page now, are all of them, put on the page at entry.
+-- Assumes nothing.
+use native.Mathlib.Omega.{arith}
+use mathlib.Core.Path.{refl, ◌∙◌}
+use Prim.Native.Nat.{◌-◌}
+use lib.ListN.{length, get_or}
+use Rattle.text.proofs.PageLaws.{texts-start, texts-turn, texts-end}
+use Rattle.picture.specs.Picture.{tile_text, tiles_text}
+use Rattle.picture.proofs.put_tiles.Goals as goal
+
+pub loop-x-init : goal.loop-x-init
+unfolding tiles_text
+loop-x-init c = (omega arith, refl, texts-start (λ x. tile_text c.args.named x c.args.y (get_or c.args.row.now x 0)) (length c.args.row.now) _)
+
+pub loop-x-preserved : goal.loop-x-preserved
+loop-x-preserved c =
+    (
+      omega arith,
+      c.put_tile-next.auto.out ∙ c.loop-x.invariant.1,
+      texts-turn _ _ _ _ _ c.loop-x-test.true c.put_tile-next.ensures c.loop-x.invariant.2,
+    )
+
+pub shape_of-out : goal.shape_of-out
+shape_of-out c = c.loop-x.invariant.1
+
+pub returns : goal.returns
+returns c = texts-end _ _ _ _ c.loop-x-test.false c.loop-x.invariant.2
