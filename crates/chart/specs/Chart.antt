@@ -1,6 +1,6 @@
 -- The chart of an ocean as text: a grid of cells with its borders, the end of the run in words, and a legend.
 -- Follows docs/RULES.md, "Domains", "Grid" and "Run". Assumes nothing.
-use Rattle.std.specs.Prelude.{Bool, cond, List, [], ◌∷◌, ◌++◌, ℕ, ◌+◌, ◌*◌, ◌/◌, ◌%◌, eqb, length, get_or, take, drop, replicate}
+use Rattle.std.specs.Prelude.{Bool, cond, List, [], ◌∷◌, ◌++◌, ℕ, ◌*◌, ◌/◌, ◌%◌, eqb, length, get_or, take, drop, replicate}
 use Rattle.words.specs.Words.{alone, how_many, least}
 use Rattle.text.specs.Pages.{ascii, texts, line}
 use Rattle.text.specs.Numbers.{decimal, aligned, padded}

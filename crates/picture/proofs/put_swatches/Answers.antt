@@ -2,7 +2,6 @@
 -- Assumes nothing.
 use native.Mathlib.Omega.{arith}
 use mathlib.Core.Path.{refl, ◌∙◌}
-use Prim.Native.Nat.{◌-◌}
 use Rattle.text.proofs.PageLaws.{texts-start, texts-turn, texts-end}
 use Rattle.picture.specs.Picture.{shown_text}
 use Rattle.picture.proofs.put_swatches.Goals as goal
@@ -11,12 +10,11 @@ pub loop-p-init : goal.loop-p-init
 loop-p-init c = (omega arith, refl, texts-start (shown_text c.args.height c.args.named c.args.domains.now) 64 _)
 
 pub loop-p-preserved : goal.loop-p-preserved
-loop-p-preserved c =
-    (
-      omega arith,
-      c.put_shown-next.auto.out ∙ c.loop-p.invariant.1,
-      texts-turn _ _ _ _ _ c.loop-p-test.true c.put_shown-next.ensures c.loop-p.invariant.2,
-    )
+loop-p-preserved c = (
+  omega arith,
+  c.put_shown-next.auto.out ∙ c.loop-p.invariant.1,
+  texts-turn _ _ _ _ _ c.loop-p-test.true c.put_shown-next.ensures c.loop-p.invariant.2,
+)
 
 pub shape_of-out : goal.shape_of-out
 shape_of-out c = c.loop-p.invariant.1

@@ -2,7 +2,6 @@
 -- Assumes nothing.
 use native.Mathlib.Omega.{arith}
 use mathlib.Core.Path.{refl, ◌∙◌}
-use Prim.Native.Nat.{◌-◌}
 use lib.ListN.{length, get_or}
 use Rattle.text.proofs.PageLaws.{texts-start, texts-turn, texts-end}
 use Rattle.picture.specs.Picture.{tile_text, tiles_text}
@@ -13,12 +12,11 @@ unfolding tiles_text
 loop-x-init c = (omega arith, refl, texts-start (λ x. tile_text c.args.named x c.args.y (get_or c.args.row.now x 0)) (length c.args.row.now) _)
 
 pub loop-x-preserved : goal.loop-x-preserved
-loop-x-preserved c =
-    (
-      omega arith,
-      c.put_tile-next.auto.out ∙ c.loop-x.invariant.1,
-      texts-turn _ _ _ _ _ c.loop-x-test.true c.put_tile-next.ensures c.loop-x.invariant.2,
-    )
+loop-x-preserved c = (
+  omega arith,
+  c.put_tile-next.auto.out ∙ c.loop-x.invariant.1,
+  texts-turn _ _ _ _ _ c.loop-x-test.true c.put_tile-next.ensures c.loop-x.invariant.2,
+)
 
 pub shape_of-out : goal.shape_of-out
 shape_of-out c = c.loop-x.invariant.1

@@ -1,6 +1,6 @@
 -- `seed::fill` meets its contract. The invariant: the entries passed are the seed's words, and the counter is after them.
 -- Assumes nothing.
-use Rattle.std.proofs.Common.{◌-◌, refl, arith, length-set}
+use Rattle.std.proofs.Common.{refl, arith, length-set}
 use Rattle.seed.proofs.SeedLaws.{drawn_none, drawn_more, drawn-all}
 use Rattle.seed.proofs.fill.Goals as goal
 

@@ -1,6 +1,6 @@
 -- `seed::read` meets its contract. The invariant: the entries passed are the words of the file.
 -- Assumes nothing.
-use Rattle.std.proofs.Common.{◌-◌, refl, arith, length-set}
+use Rattle.std.proofs.Common.{refl, arith, length-set}
 use Rattle.seed.proofs.StripLaws.{read_none, read_more, read_all}
 use Rattle.seed.proofs.read.Goals as goal
 

@@ -1,7 +1,6 @@
 -- `text::put_line` meets its contract. The invariant: the line that is sought, of what is left of the table, put on the page now, is the whole, put on the page at entry.
 -- Assumes nothing.
 use mathlib.Core.Path.{refl, ◌∙◌}
-use Prim.Native.Nat.{◌-◌}
 use native.Mathlib.Omega.{arith}
 use Rattle.text.proofs.LineLaws.{turn-done, turn_next, turn_byte, turn-pass, turn_end}
 use Rattle.text.proofs.put_line.Goals as goal
@@ -21,12 +20,11 @@ loop-i-preserved-then-byte-eq10 c =
     (omega arith, c.loop-i.invariant.1, turn_next _ _ _ _ c.loop-i-test.true c.loop-i.invariant.2 c.if-left-eq0.false c.if-byte-eq10.true)
 
 pub loop-i-preserved-then-left-eq0-2 : goal.loop-i-preserved-then-left-eq0-2
-loop-i-preserved-then-left-eq0-2 c =
-    (
-      omega arith,
-      c.put_byte-next.auto.out ∙ c.loop-i.invariant.1,
-      turn_byte _ _ _ _ c.loop-i-test.true c.loop-i.invariant.2 _ c.if-left-eq0-2.true c.if-byte-eq10.false c.put_byte-next.ensures,
-    )
+loop-i-preserved-then-left-eq0-2 c = (
+  omega arith,
+  c.put_byte-next.auto.out ∙ c.loop-i.invariant.1,
+  turn_byte _ _ _ _ c.loop-i-test.true c.loop-i.invariant.2 _ c.if-left-eq0-2.true c.if-byte-eq10.false c.put_byte-next.ensures,
+)
 
 pub loop-i-preserved : goal.loop-i-preserved
 loop-i-preserved c =

@@ -8,11 +8,10 @@ pub loop-left-init : goal.loop-left-init
 loop-left-init c = (refl, refl)
 
 pub loop-left-preserved : goal.loop-left-preserved
-loop-left-preserved c =
-    (
-      c.put_byte-next.auto.out ∙ c.loop-left.invariant.0,
-      repeated-turn _ _ _ _ c.loop-left-test.true c.put_byte-next.ensures c.loop-left.invariant.1,
-    )
+loop-left-preserved c = (
+  c.put_byte-next.auto.out ∙ c.loop-left.invariant.0,
+  repeated-turn _ _ _ _ c.loop-left-test.true c.put_byte-next.ensures c.loop-left.invariant.1,
+)
 
 pub shape_of-out : goal.shape_of-out
 shape_of-out c = c.loop-left.invariant.0

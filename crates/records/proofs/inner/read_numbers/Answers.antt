@@ -1,7 +1,6 @@
 -- `records::inner::read_numbers` meets its contract.
 -- Assumes nothing.
 use mathlib.Core.Path.{refl, ◌∙◌}
-use Prim.Native.Nat.{◌-◌}
 use native.Mathlib.Omega.{arith}
 use lib.ListN.{length-set}
 use Rattle.records.proofs.NumberLaws.{read-turn, read-end}

@@ -1,7 +1,7 @@
 -- `refusals::inner::number_of` meets its contract.
 -- Assumes nothing.
 use mathlib.Core.Path.{sym, ap, ◌∙◌}
-use Rattle.refusals.specs.Refusals.{number, number_of}
+use Rattle.refusals.specs.Refusals.{number_of}
 use Rattle.refusals.proofs.inner.number_of.Goals as goal
 
 pub returns-in-Accepted : goal.returns-in-Accepted

@@ -1,7 +1,6 @@
 -- `chart::table::count_alike` meets its contract. The invariant: what was counted and what is left to count are the whole.
 -- Assumes nothing.
 use native.Mathlib.Omega.{arith}
-use Prim.Native.Nat.{◌-◌}
 use borrow.Author.Tests.{eq-eqb, ne_eqb}
 use Rattle.chart.proofs.TallyLaws.{tally_more, tally_same, tally-end}
 use Rattle.chart.proofs.inner.table.count_alike.Goals as goal

@@ -1,7 +1,6 @@
 -- `chart::table::count_holding` meets its contract. The invariant: what was counted and what is left to count are the whole.
 -- Assumes nothing.
 use native.Mathlib.Omega.{arith}
-use Prim.Native.Nat.{◌-◌}
 use borrow.Author.Tests.{le-leb, lt-leb}
 use Rattle.chart.proofs.TallyLaws.{tally_more, tally_same, tally-end}
 use Rattle.chart.proofs.inner.table.count_holding.Goals as goal

@@ -2,7 +2,6 @@
 -- Assumes nothing.
 use native.Mathlib.Omega.{arith}
 use mathlib.Core.Path.{refl, ◌∙◌}
-use Prim.Native.Nat.{◌-◌}
 use lib.ListN.{length, get_or}
 use Rattle.text.proofs.PageLaws.{texts-start, texts-turn, texts-end}
 use Rattle.chart.specs.Chart.{cell_text, cells_text}
@@ -13,12 +12,11 @@ unfolding cells_text
 loop-x-init c = (omega arith, refl, texts-start (λ k. cell_text c.args.wide (get_or c.args.row.now k 0)) (length c.args.row.now) _)
 
 pub loop-x-preserved : goal.loop-x-preserved
-loop-x-preserved c =
-    (
-      omega arith,
-      c.put_cell-next.auto.out ∙ c.loop-x.invariant.1,
-      texts-turn _ _ _ _ _ c.loop-x-test.true c.put_cell-next.ensures c.loop-x.invariant.2,
-    )
+loop-x-preserved c = (
+  omega arith,
+  c.put_cell-next.auto.out ∙ c.loop-x.invariant.1,
+  texts-turn _ _ _ _ _ c.loop-x-test.true c.put_cell-next.ensures c.loop-x.invariant.2,
+)
 
 pub shape_of-out : goal.shape_of-out
 shape_of-out c = c.loop-x.invariant.1

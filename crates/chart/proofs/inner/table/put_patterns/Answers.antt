@@ -2,7 +2,6 @@
 -- Assumes nothing.
 use native.Mathlib.Omega.{arith}
 use mathlib.Core.Path.{refl, ◌∙◌}
-use Prim.Native.Nat.{◌-◌}
 use Rattle.text.proofs.PageLaws.{texts-start, texts-turn, texts-end}
 use Rattle.chart.specs.Chart.{some_text}
 use Rattle.chart.proofs.inner.table.put_patterns.Goals as goal
@@ -11,12 +10,11 @@ pub loop-p-init : goal.loop-p-init
 loop-p-init c = (omega arith, refl, texts-start (some_text c.args.named c.args.domains.now) 64 _)
 
 pub loop-p-preserved : goal.loop-p-preserved
-loop-p-preserved c =
-    (
-      omega arith,
-      c.put_some-next.auto.out ∙ c.loop-p.invariant.1,
-      texts-turn _ _ _ _ _ c.loop-p-test.true c.put_some-next.ensures c.loop-p.invariant.2,
-    )
+loop-p-preserved c = (
+  omega arith,
+  c.put_some-next.auto.out ∙ c.loop-p.invariant.1,
+  texts-turn _ _ _ _ _ c.loop-p-test.true c.put_some-next.ensures c.loop-p.invariant.2,
+)
 
 pub shape_of-out : goal.shape_of-out
 shape_of-out c = c.loop-p.invariant.1

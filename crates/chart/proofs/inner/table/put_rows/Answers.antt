@@ -2,7 +2,7 @@
 -- Assumes nothing.
 use native.Mathlib.Omega.{arith}
 use mathlib.Core.Path.{refl, ap, ◌∙◌}
-use Prim.Native.Nat.{ℕ, ◌-◌}
+use Prim.Native.Nat.{ℕ}
 use Rattle.text.specs.Pages.{page, put, texts}
 use Rattle.text.proofs.PageLaws.{texts-start, texts-turn, texts-end}
 use Rattle.chart.specs.Chart.{row_text, row_of, rows_text}
@@ -18,13 +18,12 @@ pub put_row_of-next-requires : goal.put_row_of-next-requires
 put_row_of-next-requires c = rw (← c.loop-y.invariant.2) c.loop-y-test.true
 
 pub loop-y-preserved : goal.loop-y-preserved
-loop-y-preserved c =
-    (
-      omega arith,
-      c.put_row_of-next.auto.out ∙ c.loop-y.invariant.1,
-      c.loop-y.invariant.2,
-      texts-turn _ _ _ _ _ c.loop-y-test.true c.put_row_of-next.ensures c.loop-y.invariant.3,
-    )
+loop-y-preserved c = (
+  omega arith,
+  c.put_row_of-next.auto.out ∙ c.loop-y.invariant.1,
+  c.loop-y.invariant.2,
+  texts-turn _ _ _ _ _ c.loop-y-test.true c.put_row_of-next.ensures c.loop-y.invariant.3,
+)
 
 pub shape_of-out : goal.shape_of-out
 shape_of-out c = c.loop-y.invariant.1
