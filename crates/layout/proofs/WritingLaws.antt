@@ -17,7 +17,6 @@ use Rattle.grid.specs.Grid.{Grid}
 use Rattle.layout.specs.Sheet.{Sheet, list_bytes, bytes_of}
 use Rattle.layout.specs.Lending.{Fitting}
 use Rattle.layout.specs.Tables.{sheet_for, lists_from, lists_of, kind_of, stored}
-use Rattle.adjacency.proofs.WeightLaws.{weighed}
 use Rattle.records.proofs.NumberLaws.{length-u16s}
 use Rattle.adjacency.proofs.ListLaws.{list_at_of}
 use Rattle.adjacency.proofs.AcceptedLaws.{list-short}

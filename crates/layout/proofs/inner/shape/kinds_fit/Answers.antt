@@ -1,7 +1,6 @@
 -- `layout::inner::shape::kinds_fit` meets its contract.
 -- Assumes nothing.
 use mathlib.Core.Path.{refl, sym, ◌∙◌}
-use Prim.Native.Nat.{◌-◌}
 use native.Mathlib.Numerals.{add-one}
 use native.Mathlib.Omega.{arith}
 use Rattle.layout.proofs.ShapeLaws.{kinds-over, kinds_more, kinds-end}
