@@ -1,7 +1,6 @@
 -- `forbids::inner::judge_all` meets its contract. The invariant: the first refusal of the forbids from place i on is that of all.
 -- Assumes nothing.
 use mathlib.Core.Path.{refl, sym, ◌∙◌}
-use Prim.Native.Nat.{◌-◌}
 use native.Mathlib.Numerals.{add-one}
 use native.Mathlib.Omega.{arith}
 use Rattle.adjacency.specs.Tables.{table}
