@@ -1,6 +1,6 @@
 -- Where a propagation starts: all patterns possible, with as many supports as the lists give; starting domains are full ones less what they lack.
 -- Follows docs/RULES.md, "Propagation". Assumes nothing.
-use Rattle.std.specs.Prelude.{Bool, false, cond, List, [], ◌∷◌, ◌++◌, ℕ, zero, suc, ◌+◌, ◌*◌, ◌/◌, ◌%◌, eqb, length}
+use Rattle.std.specs.Prelude.{Bool, false, cond, List, [], ◌∷◌, ◌++◌, ℕ, zero, suc, ◌*◌, ◌/◌, ◌%◌, eqb, length}
 use Rattle.words.specs.Words.{has, full}
 use Rattle.directions.specs.Directions.{opposite}
 use Rattle.adjacency.specs.Tables.{Table, list_of}
