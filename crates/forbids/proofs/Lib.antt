@@ -1,5 +1,3 @@
 pub mod ForbidLaws
 pub mod NumberLaws
 pub mod RecordLaws
-pub mod Again
-pub mod Walk

@@ -1,6 +1,6 @@
 -- Forbids: records of a cell, a pattern and what is kept, also lent as numbers; when one is refused, and what the refusals leave.
 -- Follows docs/RULES.md, "Run" and "Refusals".
-use Rattle.std.specs.Prelude.{cond, ◌↔◌, ℕ, ◌/◌, ◌%◌, ◌<◌, ◌+◌, eqb, length}
+use Rattle.std.specs.Prelude.{cond, ◌↔◌, ℕ, ◌/◌, ◌%◌, ◌<◌, eqb, length}
 use mathlib.Core.List.{List, ◌∷◌, ◌++◌, Memᴰ, []}
 use Rattle.refusals.specs.declared.Refusal.TheVariants.{BadCell, BadPattern}
 use Rattle.refusals.specs.Refusals.{Test, ◌gives◌}

@@ -2,6 +2,8 @@
 // Follows docs/RULES.md, "Entropy"; stands for `WaveCellStats` and `EntropyWithNoise` of the Rust.
 // Main property: the entropy of a domain is log2 of its weight sum minus its running value over that sum, each operation rounded once,
 // and no entropy is a NaN.
+#![tactic(auto)]
+
 ghost use Rattle.std.specs.Prelude.{◌≡◌};
 ghost use Rattle.logarithms.specs.Asked.{entropy_told, entropy_asked};
 

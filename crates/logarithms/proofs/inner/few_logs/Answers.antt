@@ -2,12 +2,8 @@
 -- Assumes nothing.
 use mathlib.Core.Path.{refl}
 use Rattle.logarithms.specs.Logs.{logs}
-use Rattle.logarithms.proofs.inner.few_logs.Statement.{statement}
-use Rattle.logarithms.proofs.inner.few_logs.Tie as tie
+use Rattle.logarithms.proofs.inner.few_logs.Goals as goal
 
-returns : tie.Need-returns
+pub returns : goal.returns
 unfolding logs
 returns c = (refl, refl)
-
-pub few-logs-spec : {M : Type 1} → statement M
-few-logs-spec = tie.close (tie.spec returns)
