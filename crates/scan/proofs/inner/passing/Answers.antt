@@ -3,21 +3,16 @@
 use mathlib.Core.Path.{◌≡◌, sym, ap}
 use Prim.Native.Nat.{ℕ, suc, ◌-◌}
 use native.Mathlib.Omega.{arith}
-use borrow.Author.Rules.{rules}
 use Rattle.scan.specs.Scanning.{passing}
-use Rattle.scan.proofs.inner.passing.Statement.{statement}
-use Rattle.scan.proofs.inner.passing.Tie as tie
+use Rattle.scan.proofs.inner.passing.Goals as goal
 
-returns : tie.Need-returns
+pub returns-then-left-eq0 : goal.returns-then-left-eq0
 unfolding passing
-returns c = rw c.if1.true
+returns-then-left-eq0 c = rw c.if-left-eq0.true
 
-returns-2 : tie.Need-returns-2
+pub returns : goal.returns
 unfolding passing
-returns-2 c =
-    let a = c.before.args in
+returns c =
+    let a = c.args in
     let more : a.left ≡ suc (a.left - 1) = omega arith in
     sym (ap (λ (n : ℕ). passing n a.kind a.lists) more)
-
-pub passing-spec : {M : Type 1} → statement M
-passing-spec = tie.close (tie.spec returns (λ c. search rules) returns-2)
