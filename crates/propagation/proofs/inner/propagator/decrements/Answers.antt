@@ -2,7 +2,7 @@
 -- the loop's start, done to those there; the slices are as they must be, and the first that is left has one support. The measure is what is left of the list.
 -- Assumes nothing.
 use mathlib.Core.Path.{◌≡◌, refl, sym, ◌∙◌}
-use Prim.Native.Nat.{◌+◌, ◌-◌, ◌<◌}
+use Prim.Native.Nat.{◌+◌, ◌<◌}
 use native.Mathlib.Omega.{arith}
 use lib.ListN.{get_or}
 use Rattle.consistency.specs.Worklist.{place}
@@ -45,7 +45,7 @@ pub remove_and_propose-next-requires : goal.remove_and_propose-next-requires
 remove_and_propose-next-requires c =
     let record { lent = lent; alongside = (alongside, masked, lookups); cell_lt_cells = (hc, hd, below) } = c.requires in
     let (_, going, _) = c.loop-i.invariant in
-    record { lent = going.lent; alongside = (going.alongside, masked, lookups); cell_lt_cells = (hc, read (goal.at.remove_and_propose-next-requires c).After-wide, last-possible going.lent hc hd (read (goal.at.remove_and_propose-next-requires c).After-wide) (one (goal.at.remove_and_propose-next-requires c).After-wide)); }
+    record { lent = going.lent; alongside = (going.alongside, masked, lookups); cell_lt_cells = (hc, read (goal.at.remove_and_propose-next-requires c).After-wide, last-possible going.lent hc hd (read (goal.at.remove_and_propose-next-requires c).After-wide) (one (goal.at.remove_and_propose-next-requires c).After-wide)) }
 
 pub overflow_add-i : goal.overflow_add-i
 overflow_add-i c =

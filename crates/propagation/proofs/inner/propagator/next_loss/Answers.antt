@@ -2,7 +2,7 @@
 -- from the first entry on comes to, visited with those at entry. The measure is what is left of the list.
 -- Assumes nothing.
 use mathlib.Core.Path.{refl, ◌∙◌}
-use Prim.Native.Nat.{◌+◌, ◌-◌, ◌*◌, ◌<◌}
+use Prim.Native.Nat.{◌+◌, ◌*◌, ◌<◌}
 use native.Mathlib.Omega.{arith}
 use lib.ListN.{length}
 use Rattle.propagation.proofs.VisitLaws.{loss_turn, loss_stop, loss_end}

@@ -15,7 +15,7 @@ bounds-pending-top c =
 pub spread-requires : goal.spread-requires
 spread-requires c =
     let record { lent = lent; ground = (ground, some); alongside = alongside } = c.requires in
-    record { lent = lent-below_top lent some; ground = (ground, rw c.slot-u.ensures (top-cell lent some), rw c.slot-u.ensures (top-pattern lent some)); alongside = alongside; }
+    record { lent = lent-below_top lent some; ground = (ground, rw c.slot-u.ensures (top-cell lent some), rw c.slot-u.ensures (top-pattern lent some)); alongside = alongside }
 
 pub returns : goal.returns
 returns c =

@@ -21,7 +21,7 @@ pub pop-next-requires : goal.pop-next-requires
 pop-next-requires c =
     let record { lent = lent; ground = ground; alongside = (alongside, masked, lookups) } = c.requires in
     let going = c.loop-top.invariant.1 in
-    record { lent = going.lent; ground = (ground, unfinished_some (piled c.loop-top.top c.loop-top.empty) c.loop-top-test.true); alongside = (going.alongside, masked, lookups); }
+    record { lent = going.lent; ground = (ground, unfinished_some (piled c.loop-top.top c.loop-top.empty) c.loop-top-test.true); alongside = (going.alongside, masked, lookups) }
 
 pub loop-top-smaller : goal.loop-top-smaller
 loop-top-smaller c =
@@ -36,8 +36,7 @@ loop-top-smaller c =
 pub loop-top-preserved : goal.loop-top-preserved
 loop-top-preserved c =
     let ground = c.requires.ground in
-    let (left, going) = c.loop-top.invariant in
-    (
+    let (left, going) = c.loop-top.invariant in (
       propagated-turn ground _ going.lent _ c.loop-top-test.true c.pop-next.ensures ∙ left,
       going_on going refl (turn-safe ground _ going.lent _ c.loop-top-test.true c.pop-next.ensures) (c.pop-next.auto.domains, (c.pop-next.auto.counts, (c.pop-next.auto.pending, (c.pop-next.auto.floats, (c.pop-next.auto.marks, tt {0}))))),
     )

@@ -2,7 +2,7 @@
 -- done to those at entry; and the slices are as they must be. The measure is how many directions are left.
 -- Assumes nothing.
 use mathlib.Core.Path.{refl, sym, ◌∙◌}
-use Prim.Native.Nat.{◌-◌, ◌<◌}
+use Prim.Native.Nat.{◌<◌}
 use native.Mathlib.Omega.{arith}
 use Rattle.loops.proofs.LoopLaws.{steps-turn, steps-end}
 use Rattle.propagation.proofs.LentLaws.{lent-safe, going_start, going_on}
@@ -23,7 +23,7 @@ pub spread_in-next-requires : goal.spread_in-next-requires
 spread_in-next-requires c =
     let record { lent = lent; ground = (ground, hc, hp); alongside = (alongside, masked, lookups) } = c.requires in
     let going = c.loop-d.invariant.1 in
-    record { lent = going.lent; ground = (ground, hc, hp, below (goal.at.spread_in-next-requires c).In-loop-d); alongside = (going.alongside, masked, lookups); }
+    record { lent = going.lent; ground = (ground, hc, hp, below (goal.at.spread_in-next-requires c).In-loop-d); alongside = (going.alongside, masked, lookups) }
 
 pub overflow_add-d : goal.overflow_add-d
 overflow_add-d c =
@@ -36,8 +36,7 @@ loop-d-smaller c =
 pub loop-d-preserved : goal.loop-d-preserved
 loop-d-preserved c =
     let record { lent = lent; ground = (ground, hc, hp); alongside = alongside } = c.requires in
-    let (left, going) = c.loop-d.invariant in
-    (
+    let (left, going) = c.loop-d.invariant in (
       steps-turn _ _ (below (goal.at.loop-d-preserved c).In-loop-d) c.spread_in-next.ensures left,
       going_on going c.spread_in-next.ensures (ground_spread_in ground _ hc hp (below (goal.at.loop-d-preserved c).In-loop-d) (lent-safe going.lent _)) (c.spread_in-next.auto.domains, (c.spread_in-next.auto.counts, (c.spread_in-next.auto.pending, (c.spread_in-next.auto.floats, (c.spread_in-next.auto.marks, tt {0}))))),
     )

@@ -6,7 +6,7 @@ use Rattle.propagation.proofs.inner.propagator.spread_in.Goals as goal
 pub decrements-requires : goal.decrements-requires
 decrements-requires c =
     let record { lent = lent; ground = (ground, hc, hp, hd); alongside = alongside } = c.requires in
-    record { lent = lent; alongside = alongside; cell_lt_cells = (cell-inside ground hc hd c.neighbour_of-near.ensures c.in-Cell.is, hd, rw c.list_of.ensures (ground.accepted.listed.below _ _ hp hd)); }
+    record { lent = lent; alongside = alongside; cell_lt_cells = (cell-inside ground hc hd c.neighbour_of-near.ensures c.in-Cell.is, hd, rw c.list_of.ensures (ground.accepted.listed.below _ _ hp hd)) }
 
 pub returns-in-Cell : goal.returns-in-Cell
 returns-in-Cell c =

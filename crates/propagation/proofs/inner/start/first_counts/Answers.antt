@@ -1,7 +1,7 @@
 -- `propagation::inner::start::start::first_counts` meets its contract. The invariant: the counts before i are as long as their lists.
 -- Assumes nothing.
 use mathlib.Core.Path.{◌≡◌, ap, ◌∙◌}
-use Prim.Native.Nat.{ℕ, ◌-◌, ◌/◌}
+use Prim.Native.Nat.{ℕ, ◌/◌}
 use native.Mathlib.Omega.{arith}
 use lib.ListN.{length, length-set}
 use Rattle.adjacency.specs.Tables.{table, list_of}

@@ -1,6 +1,5 @@
 -- `propagation::inner::start::start::zero_floats` meets its contract. The invariant: all entries before i are zero.
 -- Assumes nothing.
-use Prim.Native.Nat.{◌-◌}
 use native.Mathlib.Omega.{arith}
 use lib.Ieee.{binary32, of_bits}
 use Rattle.loops.proofs.FillLaws.{filled_none, filled-length, filled_more, filled-all}

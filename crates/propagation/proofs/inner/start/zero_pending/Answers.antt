@@ -1,6 +1,5 @@
 -- `propagation::inner::start::start::zero_pending` meets its contract. The invariant: all entries before i are zero.
 -- Assumes nothing.
-use Prim.Native.Nat.{◌-◌}
 use native.Mathlib.Omega.{arith}
 use Rattle.loops.proofs.FillLaws.{filled_none, filled-length, filled_more, filled-all}
 use Rattle.propagation.proofs.inner.start.zero_pending.Goals as goal
