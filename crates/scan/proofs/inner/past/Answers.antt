@@ -1,7 +1,6 @@
 -- `scan::inner::past` meets its contract: the bytes that are left take the state that is reached to where all of them take the first.
 -- Assumes nothing.
 use mathlib.Core.Path.{refl}
-use Prim.Native.Nat.{◌-◌}
 use native.Mathlib.Omega.{arith}
 use Rattle.scan.specs.Scanning.{step, past}
 use Rattle.loops.proofs.LoopLaws.{each_turn, each-end}

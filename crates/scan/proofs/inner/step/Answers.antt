@@ -1,7 +1,7 @@
 -- `scan::inner::step` meets its contract: by the state.
 -- Assumes nothing.
 use mathlib.Core.Path.{sym, ap, ◌∙◌}
-use Rattle.scan.specs.Scanning.{headed, counted, listed, forbidden, step}
+use Rattle.scan.specs.Scanning.{step}
 use Rattle.scan.proofs.inner.step.Goals as goal
 
 pub returns-in-Bad : goal.returns-in-Bad

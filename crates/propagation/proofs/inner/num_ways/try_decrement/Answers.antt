@@ -10,11 +10,9 @@ use lib.Dec.{ltb}
 use lib.ListN.{get_or, set}
 use lib.Seq.{set-get_or}
 use mir.Val.{bool_byte}
-use borrow.Author.Rules.{rules}
 use borrow.Author.Tests.{ltb-true}
 use Rattle.propagation.specs.Supports.{visit, visit_at}
-use Rattle.propagation.proofs.inner.num_ways.try_decrement.Statement.{statement}
-use Rattle.propagation.proofs.inner.num_ways.try_decrement.Tie as tie
+use Rattle.propagation.proofs.inner.num_ways.try_decrement.Goals as goal
 
 -- what is taken from a count is there
 there : (n : ℕ) (more : Bool) → ltb 1 n ≡ more → bool_byte more ≤ n
@@ -26,24 +24,13 @@ written : (l : List ℕ) (k : ℕ) (more : Bool) → set l k (get_or l k 0 - boo
 written l k false = ap (set l k) (sub-zero (get_or l k 0)) ∙ set-get_or l k 0
 written l k true = refl
 
-sub-counts : tie.Need-overflow-sub-counts
-sub-counts c =
-    let a = c.before.args in
+pub overflow_sub-counts : goal.overflow_sub-counts
+overflow_sub-counts c =
+    let a = c.args in
     there (get_or a.counts.now a.at 0) _ refl
 
-returns : tie.Need-returns
+pub returns : goal.returns
 unfolding visit_at
 returns c =
-    let a = c.before.args in
+    let a = c.args in
     ap (visit _) (written a.counts.now a.at (ltb 1 (get_or a.counts.now a.at 0)))
-
-pub try-decrement-spec : {M : Type 1} → statement M
-try-decrement-spec =
-    tie.close
-    (tie.spec
-    (λ c. search rules)
-    (λ c. search rules)
-    sub-counts
-    (λ c. search rules)
-    (λ c. search rules)
-    returns)

@@ -1,0 +1,25 @@
+-- `propagation::inner::start::start::zero_floats` meets its contract. The invariant: all entries before i are zero.
+-- Assumes nothing.
+use native.Mathlib.Omega.{arith}
+use lib.Ieee.{binary32, of_bits}
+use Rattle.loops.proofs.FillLaws.{filled_none, filled-length, filled_more, filled-all}
+use Rattle.propagation.proofs.inner.start.zero_floats.Goals as goal
+
+pub loop-i-init : goal.loop-i-init
+loop-i-init c = filled_none (of_bits binary32 0) _
+
+pub loop-i-smaller : goal.loop-i-smaller
+loop-i-smaller c = omega (arith, filled-length (of_bits binary32 0) c.loop-i.invariant)
+
+pub loop-i-preserved : goal.loop-i-preserved
+loop-i-preserved c =
+    let F = c.loop-i.invariant in
+    filled_more (of_bits binary32 0) F (omega (arith, filled-length (of_bits binary32 0) F))
+
+pub shape_of-floats : goal.shape_of-floats
+shape_of-floats c = filled-length (of_bits binary32 0) c.loop-i.invariant
+
+pub returns : goal.returns
+returns c =
+    let F = c.loop-i.invariant in
+    filled-all (of_bits binary32 0) F (omega (arith, filled-length (of_bits binary32 0) F))
