@@ -1,7 +1,7 @@
 -- Worked cases of notes, computed from the definitions: an older note stays where a later entropy is not strictly less.
 use mathlib.Core.List.{◌∷◌, []}
 use mathlib.Core.Path.{◌≡◌, refl}
-use Prim.Native.Nat.{ℕ, ◌-◌}
+use Prim.Native.Nat.{ℕ}
 use lib.Ieee.{Float, add, sub, mul, div, of_int, of_bits, lt}
 use Rattle.logarithms.specs.Entropy.{running, minus, entropy}
 use Rattle.notes.specs.Notes.{note, lowered}

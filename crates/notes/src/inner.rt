@@ -12,7 +12,7 @@ ghost use Rattle.notes.specs.Sizes.{Alongside, Roomy};
 // ---- notes
 
 // What is noted of a cell: its entropy, with its noise word and how many of its patterns have weight.
-#[derive(Drop)]
+#[derive(Clone, Copy)]
 pub struct Note {
     pub entropy: f32,
     pub noise: u32,

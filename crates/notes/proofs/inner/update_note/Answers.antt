@@ -7,14 +7,13 @@ use Rattle.notes.proofs.BesideLaws.{proposed-byte, written-noted}
 use Rattle.notes.proofs.inner.update_note.Goals as goal
 
 pub write-requires : goal.write-requires
-write-requires c =
-    (
-      proposed-byte _ _ _ _ c.proposed-new.ensures
-          (omega (arith, ap (λ (n : Note). n.count) c.of_cell-old.ensures, c.slice_known-3-1.given c.args.cell))
-          (omega arith),
-      omega arith,
-      omega arith,
-    )
+write-requires c = (
+  proposed-byte _ _ _ _ c.proposed-new.ensures
+      (omega (arith, ap (λ (n : Note). n.count) c.of_cell-old.ensures, c.slice_known-3-1.given c.args.cell))
+      (omega arith),
+  omega arith,
+  omega arith,
+)
 
 pub returns : goal.returns
 returns c =
