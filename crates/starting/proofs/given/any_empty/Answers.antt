@@ -1,7 +1,6 @@
 -- `starting::given::any_empty` meets its contract. The invariant: what is left has an empty cell exactly where the whole has.
 -- Assumes nothing.
 use mathlib.Core.Path.{refl}
-use Prim.Native.Nat.{◌-◌}
 use native.Mathlib.Omega.{arith}
 use Rattle.starting.proofs.GivenLaws.{empty-turn, empty-found, empty-end}
 use Rattle.starting.proofs.given.any_empty.Goals as goal

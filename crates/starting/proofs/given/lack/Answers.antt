@@ -1,6 +1,5 @@
 -- `starting::given::lack` meets its contract. The invariant: what the cells from here on lack, withdrawn now, is all that the domains lack, withdrawn at first.
 -- Assumes nothing.
-use Prim.Native.Nat.{◌-◌}
 use Rattle.starting.proofs.GivenLaws.{passing-start, passing-asks, passing-turn, passing-end}
 use Rattle.starting.proofs.given.lack.Goals as goal
 

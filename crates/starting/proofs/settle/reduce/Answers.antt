@@ -18,11 +18,11 @@ pub propagate-pile-requires : goal.propagate-pile-requires
 propagate-pile-requires c =
     let t = table c.args.count c.args.offsets.now c.args.ids.now in
     let g = grid c.args.width c.args.height c.args.mode in
-    let zeros = take-zeros c.args.count 64 c.requires.starting.patterns in record { lent = lent-given t g c.args.domains.now c.requires.ground c.requires.starting.fit c.requires.starting c.begin-begun.auto.pending c.begin-begun.ensures; ground = c.requires.ground; alongside = (rw zeros (alongside_none c.args.count _ _ _ _ (omega (arith, c.requires.starting.cells, length-replicate {A = ℕ} 2080 0))), rw zeros (sym (mask_none c.args.count)), rw zeros (lookups_none c.args.count c.requires.starting.patterns c.logs-logs.ensures)); }
+    let zeros = take-zeros c.args.count 64 c.requires.starting.patterns in record { lent = lent-given t g c.args.domains.now c.requires.ground c.requires.starting.fit c.requires.starting c.begin-begun.auto.pending c.begin-begun.ensures; ground = c.requires.ground; alongside = (rw zeros (alongside_none c.args.count _ _ _ _ (omega (arith, c.requires.starting.cells, length-replicate {A = ℕ} 2080 0))), rw zeros (sym (mask_none c.args.count)), rw zeros (lookups_none c.args.count c.requires.starting.patterns c.logs-logs.ensures)) }
 
 pub returns : goal.returns
 returns c =
     let t = table c.args.count c.args.offsets.now c.args.ids.now in
     let g = grid c.args.width c.args.height c.args.mode in
     let e = reduce-is t g c.args.domains.now c.requires.ground c.requires.starting.fit _ _ _ c.begin-begun.ensures c.propagate-pile.ensures.0 in
-    record { value = ap (λ (r : State (Unit {0})). r.empty) e; domains_after = ap (λ (r : State (Unit {0})). r.domains) e; }
+    record { value = ap (λ (r : State (Unit {0})). r.empty) e; domains_after = ap (λ (r : State (Unit {0})). r.domains) e }
