@@ -1,0 +1,11 @@
+-- `collapse::inner::start::fill_marks` meets its contract. The invariant: all entries before i are so.
+-- Assumes nothing.
+use Prim.Native.Nat.{◌-◌, ◌≤◌}
+use Rattle.loops.proofs.FillLaws.{Filled}
+use Rattle.collapse.proofs.inner.start.fill_marks.Given as goal
+
+abbrev pub invariant-loop-i : goal.invariant-loop-i
+invariant-loop-i l = Filled l.number l.initial.marks l.i l.marks × (l.i ≤ l.many)
+
+abbrev pub decreases-loop-i : goal.decreases-loop-i
+decreases-loop-i l = l.many - l.i
