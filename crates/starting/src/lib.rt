@@ -1,6 +1,8 @@
 // Propagation of starting domains: the public call.
 // Follows docs/RULES.md, "Propagation".
 // Main property: what is left is the greatest consistent subset of the starting domains, or a contradiction where that has an empty cell.
+#![tactic(auto)]
+
 ghost use Rattle.std.specs.Prelude.{◌≡◌};
 ghost use Rattle.adjacency.specs.Tables.{table};
 ghost use Rattle.grid.specs.Grid.{grid};

@@ -17,7 +17,7 @@ entry s marks = state_of s.args.count s.args.domains.now s.args.counts.now s.arg
 pub remove-requires : goal.remove-requires
 remove-requires c =
     let record { lent = lent; weighed = room; cell_in_bounds = (hc, hp) } = c.requires in
-    record { lent = lent; weighed = room; cell_in_bounds = (hc, hp, there _ _ c.has_pattern.ensures c.if-has_pattern.true); }
+    record { lent = lent; weighed = room; cell_in_bounds = (hc, hp, there _ _ c.has_pattern.ensures c.if-has_pattern.true) }
 
 pub shape_of-domains-then-has_pattern : goal.shape_of-domains-then-has_pattern
 shape_of-domains-then-has_pattern c = c.remove.auto.domains
@@ -34,9 +34,9 @@ shape_of-floats-then-has_pattern c = c.remove.auto.floats
 pub returns-then-has_pattern : goal.returns-then-has_pattern
 returns-then-has_pattern c =
     let a = c.args in
-    let l = c.remove.new.1.1.1.1.1 in
+    let l = c.remove.new in
     λ marks. forbids-there a.pattern _ c.has_pattern.ensures a.count (lessened a.weights.now) (entry (goal.at.returns-then-has_pattern c).Start marks) a.cell refl c.if-has_pattern.true
-    {s' = state_of a.count l.0 l.1.0 l.1.1.0 c.remove.result (beside l.1.1.1.0 marks)} (c.remove.ensures marks)
+    {s' = state_of a.count l.domains l.counts l.pending c.remove.result (beside l.floats marks)} (c.remove.ensures marks)
 
 pub returns : goal.returns
 returns c =

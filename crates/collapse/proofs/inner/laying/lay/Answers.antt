@@ -27,13 +27,13 @@ touch-requires c =
 pub strike-pile-requires : goal.strike-pile-requires
 strike-pile-requires c =
     let record { lent = lent; ground = _; alongside = (room, _, lookups); cell_in_bounds = there } = c.requires in
-    record { lent = lent; weighed = (room.weighed, λ p h. (room.roomy p h).valued, lookups.logs_lent); cell_in_bounds = there; }
+    record { lent = lent; weighed = (room.weighed, λ p h. (room.roomy p h).valued, lookups.logs_lent); cell_in_bounds = there }
 
 pub propagate-requires : goal.propagate-requires
 propagate-requires c =
     let touched = c.touch in
     let record { lent = lent; ground = ground; alongside = (room, masked, lookups); cell_in_bounds = (hc, hp) } = c.requires in
-    record { lent = struck_lent lent hc hp _ _ _ (c.strike-pile.ensures c.args.marks.now) c.strike-pile.auto.domains c.strike-pile.auto.pending; ground = ground_at c.strike-pile.auto.domains ground; alongside = (alongside-at {marks' = touched.new.marks} {floats' = c.strike-pile.new.floats} c.strike-pile.auto.domains c.strike-pile.auto.floats touched.auto.marks room, masked, lookups); }
+    record { lent = struck_lent lent hc hp _ _ _ (c.strike-pile.ensures c.args.marks.now) c.strike-pile.auto.domains c.strike-pile.auto.pending; ground = ground_at c.strike-pile.auto.domains ground; alongside = (alongside-at {marks' = touched.new.marks} {floats' = c.strike-pile.new.floats} c.strike-pile.auto.domains c.strike-pile.auto.floats touched.auto.marks room, masked, lookups) }
 
 pub shape_of-domains : goal.shape_of-domains
 shape_of-domains c = c.propagate.auto.domains ∙ c.strike-pile.auto.domains
@@ -58,11 +58,11 @@ returns c =
     let a = c.args in
     let record { lent = _; ground = ground; alongside = (room, _, _); cell_in_bounds = (hc, _) } = c.requires in
     let d = struck.auto.domains in
-    let k = struck.new.1.1.1.1.1.1 in
-    let l = called.new.1.1.1.1.1.1.1.1.1.1.1 in
+    let k = struck.new in
+    let l = called.new in
     let marks = touched.new.marks in (
-      laid_in (input (goal.at.returns c).Start) (asks (goal.at.returns c).Start) a.domains.now a.counts.now a.pending.now a.floats.now a.marks.now k.0 k.1.0 k.1.1.0 struck.result k.1.1.1.0 marks hc d touched.ensures struck.ensures
-          l.0 l.1.0 l.1.1.0 called.result l.1.1.1.0 l.1.1.1.1.0 ground.all called.auto.domains called.ensures.0,
-      laid-watched (input (goal.at.returns c).Start) (asks (goal.at.returns c).Start) a.domains.now a.counts.now a.pending.now a.floats.now a.marks.now k.0 k.1.0 k.1.1.0 struck.result k.1.1.1.0 marks hc d touched.ensures struck.ensures
-          l.0 l.1.1.1.0 l.1.1.1.1.0 room.marked called.ensures.1,
+      laid_in (input (goal.at.returns c).Start) (asks (goal.at.returns c).Start) a.domains.now a.counts.now a.pending.now a.floats.now a.marks.now k.domains k.counts k.pending struck.result k.floats marks hc d touched.ensures struck.ensures
+          l.domains l.counts l.pending called.result l.floats l.marks ground.all called.auto.domains called.ensures.0,
+      laid-watched (input (goal.at.returns c).Start) (asks (goal.at.returns c).Start) a.domains.now a.counts.now a.pending.now a.floats.now a.marks.now k.domains k.counts k.pending struck.result k.floats marks hc d touched.ensures struck.ensures
+          l.domains l.floats l.marks room.marked called.ensures.1,
     )

@@ -19,11 +19,15 @@ loop-left-init c =
 pub remove-next-requires : goal.remove-next-requires
 remove-next-requires c =
     let (is, _, going) = c.loop-left.invariant in
-    let hc = c.requires.cell_in_bounds.0 in record { lent = subst (λ (k : ℕ). Lent c.args.count k c.loop-left.domains c.loop-left.counts c.loop-left.pending c.loop-left.next) (sym going.domains) going.lent; weighed = (c.requires.weighed.0, λ p h. omega (arith, c.requires.weighed.1 p h, going.floats, going.domains), c.requires.weighed.2); cell_in_bounds = (
-          omega (arith, hc, going.domains),
-          next_below going.lent hc _ is c.loop-left-test.true c.next_pattern.ensures,
-          next_possible going.lent hc _ is c.loop-left-test.true c.next_pattern.ensures,
-        ); }
+    let hc = c.requires.cell_in_bounds.0 in record {
+      lent = subst (λ (k : ℕ). Lent c.args.count k c.loop-left.domains c.loop-left.counts c.loop-left.pending c.loop-left.next) (sym going.domains) going.lent;
+      weighed = (c.requires.weighed.0, λ p h. omega (arith, c.requires.weighed.1 p h, going.floats, going.domains), c.requires.weighed.2);
+      cell_in_bounds = (
+        omega (arith, hc, going.domains),
+        next_below going.lent hc _ is c.loop-left-test.true c.next_pattern.ensures,
+        next_possible going.lent hc _ is c.loop-left-test.true c.next_pattern.ensures,
+      );
+    }
 
 pub offset_bounds-domains-cell-in-loop-left : goal.offset_bounds-domains-cell-in-loop-left
 offset_bounds-domains-cell-in-loop-left c =
@@ -40,18 +44,18 @@ without_pattern-left-requires-in-loop-left c =
 pub loop-left-smaller : goal.loop-left-smaller
 loop-left-smaller c =
     let (is, _, going) = c.loop-left.invariant in
-    let l = c.remove-next.new.1.1.1.1.1 in
-    next_less going.lent c.requires.cell_in_bounds.0 c.args.pattern is c.loop-left-test.true c.next_pattern.ensures (lessened c.args.weights.now) (beside c.loop-left.floats []) {(goal.at.loop-left-smaller c).Start = state_of c.args.count l.0 l.1.0 l.1.1.0 c.remove-next.result (beside l.1.1.1.0 [])} (c.remove-next.ensures [])
+    let l = c.remove-next.new in
+    next_less going.lent c.requires.cell_in_bounds.0 c.args.pattern is c.loop-left-test.true c.next_pattern.ensures (lessened c.args.weights.now) (beside c.loop-left.floats []) {s = state_of c.args.count l.domains l.counts l.pending c.remove-next.result (beside l.floats [])} (c.remove-next.ensures [])
 
 pub loop-left-preserved : goal.loop-left-preserved
 loop-left-preserved c =
     let (is, left, going) = c.loop-left.invariant in
     let hc = c.requires.cell_in_bounds.0 in
-    let l = c.remove-next.new.1.1.1.1.1 in (
+    let l = c.remove-next.new in (
       c.without_pattern-left-in-loop-left.ensures,
-      λ marks. others_next going.lent hc c.args.pattern is c.loop-left-test.true c.next_pattern.ensures (lessened c.args.weights.now) (beside c.loop-left.floats marks) {(goal.at.loop-left-preserved c).Start = state_of c.args.count l.0 l.1.0 l.1.1.0 c.remove-next.result (beside l.1.1.1.0 marks)} (c.remove-next.ensures marks) ∙ left marks,
+      λ marks. others_next going.lent hc c.args.pattern is c.loop-left-test.true c.next_pattern.ensures (lessened c.args.weights.now) (beside c.loop-left.floats marks) {s = state_of c.args.count l.domains l.counts l.pending c.remove-next.result (beside l.floats marks)} (c.remove-next.ensures marks) ∙ left marks,
       record {
-        lent = lent-after going.lent (next_safe going.lent hc c.args.pattern is c.loop-left-test.true c.next_pattern.ensures (lessened c.args.weights.now) (beside c.loop-left.floats []) {(goal.at.loop-left-preserved c).Start = state_of c.args.count l.0 l.1.0 l.1.1.0 c.remove-next.result (beside l.1.1.1.0 [])} (c.remove-next.ensures [])) c.remove-next.auto.pending;
+        lent = lent-after going.lent (next_safe going.lent hc c.args.pattern is c.loop-left-test.true c.next_pattern.ensures (lessened c.args.weights.now) (beside c.loop-left.floats []) {s = state_of c.args.count l.domains l.counts l.pending c.remove-next.result (beside l.floats [])} (c.remove-next.ensures [])) c.remove-next.auto.pending;
         domains = c.remove-next.auto.domains ∙ going.domains;
         counts = c.remove-next.auto.counts ∙ going.counts;
         pending = c.remove-next.auto.pending ∙ going.pending;

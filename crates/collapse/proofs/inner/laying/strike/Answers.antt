@@ -14,7 +14,7 @@ abbrev entry : Start → List ℕ → State Beside
 entry s marks = state_of s.args.count s.args.domains.now s.args.counts.now s.args.pending.now s.args.pile (beside s.args.floats.now marks)
 
 pub forbid_pattern-requires : goal.forbid_pattern-requires
-forbid_pattern-requires c = c.requires
+forbid_pattern-requires c = record { lent = c.requires.lent; weighed = c.requires.weighed; cell_in_bounds = c.requires.cell_in_bounds }
 
 pub shape_of-domains-then-keep-eq0 : goal.shape_of-domains-then-keep-eq0
 shape_of-domains-then-keep-eq0 c = c.forbid_pattern.auto.domains
@@ -31,12 +31,12 @@ shape_of-floats-then-keep-eq0 c = c.forbid_pattern.auto.floats
 pub returns-then-keep-eq0 : goal.returns-then-keep-eq0
 returns-then-keep-eq0 c =
     let a = c.args in
-    let l = c.forbid_pattern.new.1.1.1.1.1 in
-    λ marks. asked-one a.count a.cell a.pattern (lessened a.weights.now) (entry (goal.at.returns-then-keep-eq0 c).Start marks) {s' = state_of a.count l.0 l.1.0 l.1.1.0 c.forbid_pattern.result (beside l.1.1.1.0 marks)}
+    let l = c.forbid_pattern.new in
+    λ marks. asked-one a.count a.cell a.pattern (lessened a.weights.now) (entry (goal.at.returns-then-keep-eq0 c).Start marks) {s' = state_of a.count l.domains l.counts l.pending c.forbid_pattern.result (beside l.floats marks)}
     c.if-keep-eq0.true (c.forbid_pattern.ensures marks)
 
 pub remove_others-requires : goal.remove_others-requires
-remove_others-requires c = c.requires
+remove_others-requires c = record { lent = c.requires.lent; weighed = c.requires.weighed; cell_in_bounds = c.requires.cell_in_bounds }
 
 pub shape_of-domains : goal.shape_of-domains
 shape_of-domains c = c.remove_others.auto.domains
@@ -53,6 +53,6 @@ shape_of-floats c = c.remove_others.auto.floats
 pub returns : goal.returns
 returns c =
     let a = c.args in
-    let l = c.remove_others.new.1.1.1.1.1 in
-    λ marks. asked-others a.count a.cell a.pattern (lessened a.weights.now) (entry (goal.at.returns c).Start marks) {s' = state_of a.count l.0 l.1.0 l.1.1.0 c.remove_others.result (beside l.1.1.1.0 marks)}
+    let l = c.remove_others.new in
+    λ marks. asked-others a.count a.cell a.pattern (lessened a.weights.now) (entry (goal.at.returns c).Start marks) {s' = state_of a.count l.domains l.counts l.pending c.remove_others.result (beside l.floats marks)}
     c.if-keep-eq0.false (c.remove_others.ensures marks)

@@ -22,12 +22,12 @@ abbrev entry : Start → State Beside
 entry s = state_of s.args.count s.args.domains.now s.args.counts.now s.args.pending.now idle (beside_in (length s.args.domains.now) s.args.floats.now s.args.marks.now)
 
 pub turn-requires : goal.turn-requires
-turn-requires c = c.requires
+turn-requires c = record { lent = c.requires.lent; ground = c.requires.ground; weighed = c.requires.weighed; sightly = c.requires.sightly }
 
 pub overflow_add-result : goal.overflow_add-result
 overflow_add-result c =
-    let l = c.turn.new.1.1.1.1.1.1.1.1.1.1.1.1.1 in
-    omega (arith, word-left (input (goal.at.overflow_add-result c).Start) c.args.words.now c.args.used (entry (goal.at.overflow_add-result c).Start) (λ (pile : Pile). state_of c.args.count l.0 l.1.0 l.1.1.0 pile (beside_in (length l.0) l.1.1.1.0 l.1.1.1.1.0)) c.in-On.is c.turn.ensures.0, c.well_formed.1.1.1.1.1.1.1.1.1.1.1.0)
+    let l = c.turn.new in
+    omega (arith, word-left (input (goal.at.overflow_add-result c).Start) c.args.words.now c.args.used (entry (goal.at.overflow_add-result c).Start) (λ (pile : Pile). state_of c.args.count l.domains l.counts l.pending pile (beside_in (length l.domains) l.floats l.marks)) c.in-On.is c.turn.ensures.0, c.well_formed.1.1.1.1.1.1.1.1.1.1.1.0)
 
 pub shape_of-domains-then-pile : goal.shape_of-domains-then-pile
 shape_of-domains-then-pile c = c.turn.auto.domains
@@ -50,8 +50,8 @@ returns-then-pile c =
 
 pub overflow_add-result-in-On : goal.overflow_add-result-in-On
 overflow_add-result-in-On c =
-    let l = c.turn.new.1.1.1.1.1.1.1.1.1.1.1.1.1 in
-    omega (arith, word-left (input (goal.at.overflow_add-result-in-On c).Start) c.args.words.now c.args.used (entry (goal.at.overflow_add-result-in-On c).Start) (λ (pile : Pile). state_of c.args.count l.0 l.1.0 l.1.1.0 pile (beside_in (length l.0) l.1.1.1.0 l.1.1.1.1.0)) c.in-On.is c.turn.ensures.0, c.well_formed.1.1.1.1.1.1.1.1.1.1.1.0)
+    let l = c.turn.new in
+    omega (arith, word-left (input (goal.at.overflow_add-result-in-On c).Start) c.args.words.now c.args.used (entry (goal.at.overflow_add-result-in-On c).Start) (λ (pile : Pile). state_of c.args.count l.domains l.counts l.pending pile (beside_in (length l.domains) l.floats l.marks)) c.in-On.is c.turn.ensures.0, c.well_formed.1.1.1.1.1.1.1.1.1.1.1.0)
 
 pub shape_of-domains-in-Over : goal.shape_of-domains-in-Over
 shape_of-domains-in-Over c = c.turn.auto.domains

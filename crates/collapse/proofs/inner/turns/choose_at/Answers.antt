@@ -34,7 +34,7 @@ choose-pattern-requires c = (bounded (goal.at.choose-pattern-requires c).Start, 
 pub lay-requires : goal.lay-requires
 lay-requires c =
     let record { lent = lent; ground = ground; alongside = room; cell_in_bounds = (hc, _) } = c.requires in
-    record { lent = lent; ground = ground; alongside = room; cell_in_bounds = (hc, taken-below lent _ _ _ c.choose-pattern.ensures); }
+    record { lent = lent; ground = ground; alongside = room; cell_in_bounds = (hc, taken-below lent _ _ _ c.choose-pattern.ensures) }
 
 pub shape_of-domains : goal.shape_of-domains
 shape_of-domains c = c.lay.auto.domains
@@ -54,5 +54,5 @@ shape_of-marks c = c.lay.auto.marks
 pub returns : goal.returns
 returns c =
     let a = c.args in
-    let l = c.lay.new.1.1.1.1.1.1.1.1.1.1.1.1.1.1 in
-    (chosen_is (input (goal.at.returns c).Start) a.cell a.word (entry (goal.at.returns c).Start) {s' = state_of a.count l.0 l.1.0 l.1.1.0 c.lay.result (beside_in (length l.0) l.1.1.1.0 l.1.1.1.1.0)} {k = 1} c.weight_sum-sum.ensures c.choose-pattern.ensures (λ z. absurd (omega arith)) c.lay.ensures.0, c.lay.ensures.1)
+    let l = c.lay.new in
+    (chosen_is (input (goal.at.returns c).Start) a.cell a.word (entry (goal.at.returns c).Start) {s' = state_of a.count l.domains l.counts l.pending c.lay.result (beside_in (length l.domains) l.floats l.marks)} {k = 1} c.weight_sum-sum.ensures c.choose-pattern.ensures (λ z. absurd (omega arith)) c.lay.ensures.0, c.lay.ensures.1)

@@ -17,7 +17,7 @@ use Rattle.collapse.proofs.StepLaws.{turn-still}
 use Rattle.collapse.proofs.TurnsLaws.{laid-numbers, first-over}
 use Rattle.collapse.proofs.WatchLaws.{observed-cut, observed-found, forgotten-cut, forgotten-found, forgotten-observed, laid-at, roomy-at}
 use Rattle.collapse.proofs.inner.turns.collapse.Goals as goal
-use Rattle.collapse.proofs.inner.turns.collapse.Goals.{Start, After-observe, After-observe-arg-1}
+use Rattle.collapse.proofs.inner.turns.collapse.Goals.{Start, After-observe}
 
 -- what the run is given, and the state that it starts from
 abbrev input : Start → Given
@@ -33,7 +33,7 @@ pub observe-requires : goal.observe-requires
 observe-requires c =
     let a = c.args in
     let record { lent = _; ground = _; weighed = (_, roomy, _); marks_len = long; laid = laid } = c.requires in
-    let =.before.before.before.before.before.before c.forget in record { lengths = record { noises = roomy.heard; words = refl; values = roomy.valued; marked = forgot.auto.1.0 ∙ long }; numbers = laid-numbers (length a.domains.now) laid; fresh = forgotten-found a.noise.now a.weighted a.domains.now a.floats.now a.marks.now long forgot.ensures; }
+    let forgot = c.forget in record { lengths = record { noises = roomy.heard; words = refl; values = roomy.valued; marked = forgot.auto.marks ∙ long }; numbers = laid-numbers (length a.domains.now) laid; fresh = forgotten-found a.noise.now a.weighted a.domains.now a.floats.now a.marks.now long forgot.ensures }
 
 -- after the look: as many marks as before, and those of cells as they were
 looked-length : (c : After-observe) → length c.observe.new.marks ≡ length c.args.marks.now
@@ -49,17 +49,17 @@ looked-cut c =
 pub take_turns-requires : goal.take_turns-requires
 take_turns-requires c =
     let a = c.args in
-    let record { lent = lent; ground = ground; weighed = (weighed, roomy, masked); marks_len = long; laid = laid } = c.requires in record { lent = lent; ground = ground; weighed = (weighed, roomy-at (looked-length (goal.at.take_turns-requires c).After-observe) roomy, masked); marks_len = (looked-length (goal.at.take_turns-requires c).After-observe ∙ long, observed-found a.noise.now a.weighted a.domains.now a.floats.now _ (c.forget.auto.marks ∙ long) c.observe.ensures.1); laid = laid-at a.count a.domains.now a.counts.now a.pending.now a.floats.now a.marks.now _ laid (looked-cut (goal.at.take_turns-requires c).After-observe); }
+    let record { lent = lent; ground = ground; weighed = (weighed, roomy, masked); marks_len = long; laid = laid } = c.requires in record { lent = lent; ground = ground; weighed = (weighed, roomy-at (looked-length (goal.at.take_turns-requires c).After-observe) roomy, masked); marks_len = (looked-length (goal.at.take_turns-requires c).After-observe ∙ long, observed-found a.noise.now a.weighted a.domains.now a.floats.now _ (c.forget.auto.marks ∙ long) c.observe.ensures.1); laid = laid-at a.count a.domains.now a.counts.now a.pending.now a.floats.now a.marks.now _ laid (looked-cut (goal.at.take_turns-requires c).After-observe) }
 
 pub shape_of-marks-in-Nothing : goal.shape_of-marks-in-Nothing
-shape_of-marks-in-Nothing c = looked-length (goal.at.shape_of-marks-in-Nothing c).After-observe-arg-1
+shape_of-marks-in-Nothing c = looked-length (goal.at.shape_of-marks-in-Nothing c).After-observe
 
 pub returns-in-Nothing : goal.returns-in-Nothing
 returns-in-Nothing c =
     let a = c.args in
     let record { lent = _; ground = ground; weighed = (_, _, masked); marks_len = long; laid = _ } = c.requires in
-    first-over (input c.before.before.before.before.before.before.before.before.before.before.before.before.before.before.before.before.before.before.before.before.before.before.before.before) a.words.now (entry c.before.before.before.before.before.before.before.before.before.before.before.before.before.before.before.before.before.before.before.before.before.before.before.before) refl
-    (turn-still (input c.before.before.before.before.before.before.before.before.before.before.before.before.before.before.before.before.before.before.before.before.before.before.before.before) a.words.now 0 (entry c.before.before.before.before.before.before.before.before.before.before.before.before.before.before.before.before.before.before.before.before.before.before.before.before)
+    first-over (input (goal.at.returns-in-Nothing c).Start) a.words.now (entry (goal.at.returns-in-Nothing c).Start) refl
+    (turn-still (input (goal.at.returns-in-Nothing c).Start) a.words.now 0 (entry (goal.at.returns-in-Nothing c).Start)
     (forgotten-observed a.weighted a.noise.now a.domains.now a.floats.now a.marks.now long c.forget.ensures c.observe.ensures.0)
     ground.all masked refl c.in-Nothing.is c.still_end.ensures)
 
@@ -82,6 +82,6 @@ pub returns-in-Cell : goal.returns-in-Cell
 returns-in-Cell c =
     let a = c.args in
     c.take_turns.ensures
-    ∙ ap (λ (m : List ℕ). collapse (input c.before.before.before.before.before.before.before.before.before.before.before.before.before.before.before.before.before.before.before.before.before.before.before.before.before.before.before.before.before.before.before.before.before.before.before.before.before.before) a.words.now (cells (grid a.width a.height a.mode) + 1) 0
+    ∙ ap (λ (m : List ℕ). collapse (input (goal.at.returns-in-Cell c).Start) a.words.now (cells (grid a.width a.height a.mode) + 1) 0
     (state_of a.count a.domains.now a.counts.now a.pending.now idle (beside a.floats.now m)))
     (looked-cut (goal.at.returns-in-Cell c).After-observe)

@@ -29,19 +29,19 @@ pub advance-stop-requires : goal.advance-stop-requires
 advance-stop-requires c =
     let record { lent = lent; ground = ground; weighed = (weighed, roomy, masked); marks_len = (long, _); laid = _ } = c.requires in
     let T = c.loop-stop.invariant in
-    let going = c.loop-stop-test.true in record { lent = turns-lent T going ground.all lent; ground = ground_at T.kept.0 ground; weighed = (weighed, turns-roomy T roomy, masked, lookups_laid c.four_sums-sums.result weighed c.logs-logs.ensures c.four_sums-sums.ensures c.sixteens-end.ensures); sightly = turns_sightly T going long; }
+    let going = c.loop-stop-test.true in record { lent = turns-lent T going ground.all lent; ground = ground_at T.kept.0 ground; weighed = (weighed, turns-roomy T roomy, masked, lookups_laid c.four_sums-sums.result weighed c.logs-logs.ensures c.four_sums-sums.ensures c.sixteens-end.ensures); sightly = turns_sightly T going long }
 
 pub loop-stop-smaller : goal.loop-stop-smaller
 loop-stop-smaller c =
     let (step, is, turned, _) = c.advance-stop.ensures in
-    let l = c.advance-stop.new.1.1.1.1.1.1.1.1.1.1.1.1.1 in
-    turns-less c.loop-stop.invariant c.loop-stop-test.true (memory l.0 l.1.0 l.1.1.0 l.1.1.1.0 l.1.1.1.1.0) step turned is
+    let l = c.advance-stop.new in
+    turns-less c.loop-stop.invariant c.loop-stop-test.true (memory l.domains l.counts l.pending l.floats l.marks) step turned is
 
 pub loop-stop-preserved : goal.loop-stop-preserved
 loop-stop-preserved c =
     let (step, is, turned, found) = c.advance-stop.ensures in
-    let l = c.advance-stop.new.1.1.1.1.1.1.1.1.1.1.1.1.1 in
-    turns-again c.loop-stop.invariant c.loop-stop-test.true (memory l.0 l.1.0 l.1.1.0 l.1.1.1.0 l.1.1.1.1.0) (c.advance-stop.auto.domains, (c.advance-stop.auto.counts, (c.advance-stop.auto.pending, (c.advance-stop.auto.floats, (c.advance-stop.auto.marks, tt {0}))))) found step turned is
+    let l = c.advance-stop.new in
+    turns-again c.loop-stop.invariant c.loop-stop-test.true (memory l.domains l.counts l.pending l.floats l.marks) (c.advance-stop.auto.domains, (c.advance-stop.auto.counts, (c.advance-stop.auto.pending, (c.advance-stop.auto.floats, (c.advance-stop.auto.marks, tt {0}))))) found step turned is
 
 pub shape_of-domains : goal.shape_of-domains
 shape_of-domains c = c.loop-stop.invariant.kept.0
