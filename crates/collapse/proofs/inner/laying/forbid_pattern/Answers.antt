@@ -17,7 +17,7 @@ entry s marks = state_of s.args.count s.args.domains.now s.args.counts.now s.arg
 pub remove-requires : goal.remove-requires
 remove-requires c =
     let record { lent = lent; weighed = room; cell_in_bounds = (hc, hp) } = c.requires in
-    record { lent = lent; weighed = room; cell_in_bounds = (hc, hp, there _ _ c.has_pattern.ensures c.if-has_pattern.true); }
+    record { lent = lent; weighed = room; cell_in_bounds = (hc, hp, there _ _ c.has_pattern.ensures c.if-has_pattern.true) }
 
 pub shape_of-domains-then-has_pattern : goal.shape_of-domains-then-has_pattern
 shape_of-domains-then-has_pattern c = c.remove.auto.domains

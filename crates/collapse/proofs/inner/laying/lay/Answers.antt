@@ -27,13 +27,13 @@ touch-requires c =
 pub strike-pile-requires : goal.strike-pile-requires
 strike-pile-requires c =
     let record { lent = lent; ground = _; alongside = (room, _, lookups); cell_in_bounds = there } = c.requires in
-    record { lent = lent; weighed = (room.weighed, λ p h. (room.roomy p h).valued, lookups.logs_lent); cell_in_bounds = there; }
+    record { lent = lent; weighed = (room.weighed, λ p h. (room.roomy p h).valued, lookups.logs_lent); cell_in_bounds = there }
 
 pub propagate-requires : goal.propagate-requires
 propagate-requires c =
     let touched = c.touch in
     let record { lent = lent; ground = ground; alongside = (room, masked, lookups); cell_in_bounds = (hc, hp) } = c.requires in
-    record { lent = struck_lent lent hc hp _ _ _ (c.strike-pile.ensures c.args.marks.now) c.strike-pile.auto.domains c.strike-pile.auto.pending; ground = ground_at c.strike-pile.auto.domains ground; alongside = (alongside-at {marks' = touched.new.marks} {floats' = c.strike-pile.new.floats} c.strike-pile.auto.domains c.strike-pile.auto.floats touched.auto.marks room, masked, lookups); }
+    record { lent = struck_lent lent hc hp _ _ _ (c.strike-pile.ensures c.args.marks.now) c.strike-pile.auto.domains c.strike-pile.auto.pending; ground = ground_at c.strike-pile.auto.domains ground; alongside = (alongside-at {marks' = touched.new.marks} {floats' = c.strike-pile.new.floats} c.strike-pile.auto.domains c.strike-pile.auto.floats touched.auto.marks room, masked, lookups) }
 
 pub shape_of-domains : goal.shape_of-domains
 shape_of-domains c = c.propagate.auto.domains ∙ c.strike-pile.auto.domains

@@ -19,11 +19,15 @@ loop-left-init c =
 pub remove-next-requires : goal.remove-next-requires
 remove-next-requires c =
     let (is, _, going) = c.loop-left.invariant in
-    let hc = c.requires.cell_in_bounds.0 in record { lent = subst (λ (k : ℕ). Lent c.args.count k c.loop-left.domains c.loop-left.counts c.loop-left.pending c.loop-left.next) (sym going.domains) going.lent; weighed = (c.requires.weighed.0, λ p h. omega (arith, c.requires.weighed.1 p h, going.floats, going.domains), c.requires.weighed.2); cell_in_bounds = (
-          omega (arith, hc, going.domains),
-          next_below going.lent hc _ is c.loop-left-test.true c.next_pattern.ensures,
-          next_possible going.lent hc _ is c.loop-left-test.true c.next_pattern.ensures,
-        ); }
+    let hc = c.requires.cell_in_bounds.0 in record {
+      lent = subst (λ (k : ℕ). Lent c.args.count k c.loop-left.domains c.loop-left.counts c.loop-left.pending c.loop-left.next) (sym going.domains) going.lent;
+      weighed = (c.requires.weighed.0, λ p h. omega (arith, c.requires.weighed.1 p h, going.floats, going.domains), c.requires.weighed.2);
+      cell_in_bounds = (
+        omega (arith, hc, going.domains),
+        next_below going.lent hc _ is c.loop-left-test.true c.next_pattern.ensures,
+        next_possible going.lent hc _ is c.loop-left-test.true c.next_pattern.ensures,
+      );
+    }
 
 pub offset_bounds-domains-cell-in-loop-left : goal.offset_bounds-domains-cell-in-loop-left
 offset_bounds-domains-cell-in-loop-left c =

@@ -25,7 +25,7 @@ pub lay_floats-requires : goal.lay_floats-requires
 lay_floats-requires c =
     let (_, few, W, masked, long) = c.requires in
     let (front, many) = c.few_logs-few.ensures in
-    record { front = (front, (four-few few W).0, masked, whole (goal.at.lay_floats-requires c).After-weight_sum-whole, omega (arith, many, c.if-whole-le64.true)); floats_len = long; }
+    record { front = (front, (four-few few W).0, masked, whole (goal.at.lay_floats-requires c).After-weight_sum-whole, omega (arith, many, c.if-whole-le64.true)); floats_len = long }
 
 pub returns-then-whole-le64 : goal.returns-then-whole-le64
 returns-then-whole-le64 c = c.lay_floats.ensures
@@ -34,7 +34,7 @@ pub lay_floats-requires-2 : goal.lay_floats-requires-2
 lay_floats-requires-2 c =
     let (_, few, W, masked, long) = c.requires in
     let lent = c.logs-logs.ensures in
-    record { front = (logs-front _ lent, (four-few few W).0, masked, whole (goal.at.lay_floats-requires-2 c).After-weight_sum-whole, omega (arith, whole (goal.at.lay_floats-requires-2 c).After-weight_sum-whole, W.light, logs-long _ lent)); floats_len = long; }
+    record { front = (logs-front _ lent, (four-few few W).0, masked, whole (goal.at.lay_floats-requires-2 c).After-weight_sum-whole, omega (arith, whole (goal.at.lay_floats-requires-2 c).After-weight_sum-whole, W.light, logs-long _ lent)); floats_len = long }
 
 pub returns : goal.returns
 returns c = c.lay_floats-2.ensures

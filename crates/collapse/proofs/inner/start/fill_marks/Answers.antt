@@ -2,7 +2,7 @@
 -- Assumes nothing.
 use mathlib.Core.List.{◌++◌}
 use mathlib.Core.Path.{ap, ◌∙◌}
-use Prim.Native.Nat.{ℕ, ◌-◌}
+use Prim.Native.Nat.{ℕ}
 use native.Mathlib.Nat.{le_antisymm}
 use native.Mathlib.Omega.{arith}
 use lib.ListN.{replicate, drop}

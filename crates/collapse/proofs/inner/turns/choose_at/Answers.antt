@@ -34,7 +34,7 @@ choose-pattern-requires c = (bounded (goal.at.choose-pattern-requires c).Start, 
 pub lay-requires : goal.lay-requires
 lay-requires c =
     let record { lent = lent; ground = ground; alongside = room; cell_in_bounds = (hc, _) } = c.requires in
-    record { lent = lent; ground = ground; alongside = room; cell_in_bounds = (hc, taken-below lent _ _ _ c.choose-pattern.ensures); }
+    record { lent = lent; ground = ground; alongside = room; cell_in_bounds = (hc, taken-below lent _ _ _ c.choose-pattern.ensures) }
 
 pub shape_of-domains : goal.shape_of-domains
 shape_of-domains c = c.lay.auto.domains

@@ -33,7 +33,7 @@ pub observe-requires : goal.observe-requires
 observe-requires c =
     let a = c.args in
     let record { lent = _; ground = _; weighed = (_, roomy, _); marks_len = long; laid = laid } = c.requires in
-    let forgot = c.forget in record { lengths = record { noises = roomy.heard; words = refl; values = roomy.valued; marked = forgot.auto.marks ∙ long }; numbers = laid-numbers (length a.domains.now) laid; fresh = forgotten-found a.noise.now a.weighted a.domains.now a.floats.now a.marks.now long forgot.ensures; }
+    let forgot = c.forget in record { lengths = record { noises = roomy.heard; words = refl; values = roomy.valued; marked = forgot.auto.marks ∙ long }; numbers = laid-numbers (length a.domains.now) laid; fresh = forgotten-found a.noise.now a.weighted a.domains.now a.floats.now a.marks.now long forgot.ensures }
 
 -- after the look: as many marks as before, and those of cells as they were
 looked-length : (c : After-observe) → length c.observe.new.marks ≡ length c.args.marks.now
@@ -49,7 +49,7 @@ looked-cut c =
 pub take_turns-requires : goal.take_turns-requires
 take_turns-requires c =
     let a = c.args in
-    let record { lent = lent; ground = ground; weighed = (weighed, roomy, masked); marks_len = long; laid = laid } = c.requires in record { lent = lent; ground = ground; weighed = (weighed, roomy-at (looked-length (goal.at.take_turns-requires c).After-observe) roomy, masked); marks_len = (looked-length (goal.at.take_turns-requires c).After-observe ∙ long, observed-found a.noise.now a.weighted a.domains.now a.floats.now _ (c.forget.auto.marks ∙ long) c.observe.ensures.1); laid = laid-at a.count a.domains.now a.counts.now a.pending.now a.floats.now a.marks.now _ laid (looked-cut (goal.at.take_turns-requires c).After-observe); }
+    let record { lent = lent; ground = ground; weighed = (weighed, roomy, masked); marks_len = long; laid = laid } = c.requires in record { lent = lent; ground = ground; weighed = (weighed, roomy-at (looked-length (goal.at.take_turns-requires c).After-observe) roomy, masked); marks_len = (looked-length (goal.at.take_turns-requires c).After-observe ∙ long, observed-found a.noise.now a.weighted a.domains.now a.floats.now _ (c.forget.auto.marks ∙ long) c.observe.ensures.1); laid = laid-at a.count a.domains.now a.counts.now a.pending.now a.floats.now a.marks.now _ laid (looked-cut (goal.at.take_turns-requires c).After-observe) }
 
 pub shape_of-marks-in-Nothing : goal.shape_of-marks-in-Nothing
 shape_of-marks-in-Nothing c = looked-length (goal.at.shape_of-marks-in-Nothing c).After-observe

@@ -1,6 +1,5 @@
 -- `collapse::inner::turns::decided` meets its contract. The invariant: every cell that is left has one pattern exactly where every cell has.
 -- Assumes nothing.
-use Prim.Native.Nat.{◌-◌}
 use native.Mathlib.Omega.{arith}
 use Rattle.collapse.proofs.StepLaws.{decided-turn, decided-stop, decided-end}
 use Rattle.collapse.proofs.inner.turns.decided.Goals as goal

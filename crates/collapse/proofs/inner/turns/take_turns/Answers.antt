@@ -29,7 +29,7 @@ pub advance-stop-requires : goal.advance-stop-requires
 advance-stop-requires c =
     let record { lent = lent; ground = ground; weighed = (weighed, roomy, masked); marks_len = (long, _); laid = _ } = c.requires in
     let T = c.loop-stop.invariant in
-    let going = c.loop-stop-test.true in record { lent = turns-lent T going ground.all lent; ground = ground_at T.kept.0 ground; weighed = (weighed, turns-roomy T roomy, masked, lookups_laid c.four_sums-sums.result weighed c.logs-logs.ensures c.four_sums-sums.ensures c.sixteens-end.ensures); sightly = turns_sightly T going long; }
+    let going = c.loop-stop-test.true in record { lent = turns-lent T going ground.all lent; ground = ground_at T.kept.0 ground; weighed = (weighed, turns-roomy T roomy, masked, lookups_laid c.four_sums-sums.result weighed c.logs-logs.ensures c.four_sums-sums.ensures c.sixteens-end.ensures); sightly = turns_sightly T going long }
 
 pub loop-stop-smaller : goal.loop-stop-smaller
 loop-stop-smaller c =

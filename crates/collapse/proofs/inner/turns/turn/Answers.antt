@@ -28,7 +28,7 @@ entry s = state_of s.args.count s.args.domains.now s.args.counts.now s.args.pend
 pub observe-requires : goal.observe-requires
 observe-requires c =
     let record { lent = _; ground = _; weighed = (_, roomy, _, _); sightly = sight } = c.requires in
-    record { lengths = record { noises = roomy.heard; words = refl; values = roomy.valued; marked = sight.marked }; numbers = sight.numbers; fresh = sight.found; }
+    record { lengths = record { noises = roomy.heard; words = refl; values = roomy.valued; marked = sight.marked }; numbers = sight.numbers; fresh = sight.found }
 
 -- what was observed, of the marks of cells alone; `saw` is after the observation
 observed : (c : After-observe) → c.observe.result ≡ observe (notes_in (length c.args.domains.now) c.args.noise.now c.args.domains.now c.args.floats.now (take (2 * length c.args.domains.now) c.args.marks.now) c.args.weighted)
@@ -40,7 +40,7 @@ offset_bounds-words-used c = omega (arith, c.if-used-words.true, c.well_formed.1
 pub choose_at-requires : goal.choose_at-requires
 choose_at-requires c =
     let record { lent = lent; ground = ground; weighed = (weighed, roomy, masked, lookups); sightly = _ } = c.requires in
-    let is = c.in-Cell.is in record { lent = lent; ground = ground; alongside = (alongside-at {marks' = c.observe.new.marks} {floats' = c.args.floats.now} refl refl c.observe.auto.marks (record { weighed = weighed; marked = roomy.marked; roomy = λ p h. roomy }), masked, lookups); cell_in_bounds = (cell-inside (input (goal.at.choose_at-requires c).Start) c.args.words.now c.args.used (entry (goal.at.choose_at-requires c).Start) (observed (goal.at.choose_at-requires c).After-observe) ground.all masked is, cell-weight (input (goal.at.choose_at-requires c).Start) c.args.words.now c.args.used (entry (goal.at.choose_at-requires c).Start) (observed (goal.at.choose_at-requires c).After-observe) ground.all masked is); }
+    let is = c.in-Cell.is in record { lent = lent; ground = ground; alongside = (alongside-at {marks' = c.observe.new.marks} {floats' = c.args.floats.now} refl refl c.observe.auto.marks (record { weighed = weighed; marked = roomy.marked; roomy = λ p h. roomy }), masked, lookups); cell_in_bounds = (cell-inside (input (goal.at.choose_at-requires c).Start) c.args.words.now c.args.used (entry (goal.at.choose_at-requires c).Start) (observed (goal.at.choose_at-requires c).After-observe) ground.all masked is, cell-weight (input (goal.at.choose_at-requires c).Start) c.args.words.now c.args.used (entry (goal.at.choose_at-requires c).Start) (observed (goal.at.choose_at-requires c).After-observe) ground.all masked is) }
 
 pub shape_of-domains-then-used-words : goal.shape_of-domains-then-used-words
 shape_of-domains-then-used-words c = c.choose_at.auto.domains
@@ -75,18 +75,16 @@ pub shape_of-marks-in-Nothing : goal.shape_of-marks-in-Nothing
 shape_of-marks-in-Nothing c = c.observe.auto.marks
 
 pub returns-in-Nothing : goal.returns-in-Nothing
-returns-in-Nothing c =
-    (
-      turn-still (input (goal.at.returns-in-Nothing c).Start) c.args.words.now c.args.used (entry (goal.at.returns-in-Nothing c).Start) (observed (goal.at.returns-in-Nothing c).After-observe) c.requires.ground.all c.requires.weighed.2 refl c.in-Nothing.is c.still_end.ensures,
-      observed-found c.args.noise.now c.args.weighted c.args.domains.now c.args.floats.now c.args.marks.now c.requires.sightly.marked c.observe.ensures.1,
-    )
+returns-in-Nothing c = (
+  turn-still (input (goal.at.returns-in-Nothing c).Start) c.args.words.now c.args.used (entry (goal.at.returns-in-Nothing c).Start) (observed (goal.at.returns-in-Nothing c).After-observe) c.requires.ground.all c.requires.weighed.2 refl c.in-Nothing.is c.still_end.ensures,
+  observed-found c.args.noise.now c.args.weighted c.args.domains.now c.args.floats.now c.args.marks.now c.requires.sightly.marked c.observe.ensures.1,
+)
 
 pub shape_of-marks-else-used-words : goal.shape_of-marks-else-used-words
 shape_of-marks-else-used-words c = c.observe.auto.marks
 
 pub returns-else-used-words : goal.returns-else-used-words
-returns-else-used-words c =
-    (
-      turn-paused (input (goal.at.returns-else-used-words c).Start) c.args.words.now c.args.used (entry (goal.at.returns-else-used-words c).Start) (observed (goal.at.returns-else-used-words c).After-observe) c.requires.ground.all c.requires.weighed.2 refl c.in-Cell.is c.if-used-words.false,
-      observed-found c.args.noise.now c.args.weighted c.args.domains.now c.args.floats.now c.args.marks.now c.requires.sightly.marked c.observe.ensures.1,
-    )
+returns-else-used-words c = (
+  turn-paused (input (goal.at.returns-else-used-words c).Start) c.args.words.now c.args.used (entry (goal.at.returns-else-used-words c).Start) (observed (goal.at.returns-else-used-words c).After-observe) c.requires.ground.all c.requires.weighed.2 refl c.in-Cell.is c.if-used-words.false,
+  observed-found c.args.noise.now c.args.weighted c.args.domains.now c.args.floats.now c.args.marks.now c.requires.sightly.marked c.observe.ensures.1,
+)
