@@ -3,7 +3,6 @@
 use mathlib.Core.Bool.{Bool, true, false, cond}
 use mathlib.Core.List.{List, ◌∷◌, ◌++◌, []}
 use mathlib.Core.Path.{◌≡◌, refl, sym, ap}
-use Prim.Native.Nat.{◌+◌}
 use Rattle.consistency.specs.Worklist.{State}
 use Rattle.notes.specs.Beside.{Beside}
 use Rattle.forbids.specs.declared.Forbid.{Forbid}

@@ -47,10 +47,10 @@ unfolding number_of weights_misfit
 returns-then-weights-count c =
     let a = c.args in
     let bad : (weights_misfit a.count a.weights.now || offsets_misfit a.count a.offsets.now) ≡ true =
-        elim c.then-weights-count.branch [
-          then-weights-count-via-then-weights-count w ↦ rw (ne_eqb _ _ w.if-weights-count.true) refl
-          | then-weights-count-via-else-weights-count+then-bad_offsets w ↦ rw (eq-eqb _ _ w.if-weights-count.false) (sym w.bad_offsets.ensures ∙ w.if-bad_offsets.true)
-        ]
+    elim c.then-weights-count.branch [
+      | then-weights-count-via-then-weights-count w ↦ rw (ne_eqb _ _ w.if-weights-count.true) refl
+      | then-weights-count-via-else-weights-count+then-bad_offsets w ↦ rw (eq-eqb _ _ w.if-weights-count.false) (sym w.bad_offsets.ensures ∙ w.if-bad_offsets.true)
+    ]
     in
     sym (table_refusal-is _ _ (count-good (goal.at.returns-then-weights-count c).Else-bad_count) bad refl refl refl)
 

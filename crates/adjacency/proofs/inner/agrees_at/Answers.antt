@@ -1,7 +1,6 @@
 -- `adjacency::inner::agrees_at` meets its contract. The invariant: what is left of the list agrees exactly where the whole does.
 -- Assumes nothing.
 use mathlib.Core.Path.{◌≡◌, sym, ap, ◌∙◌}
-use Prim.Native.Nat.{◌-◌}
 use native.Mathlib.Omega.{arith}
 use Rattle.loops.specs.Tests.{every, elem}
 use Rattle.directions.specs.Directions.{opposite}

@@ -1,10 +1,9 @@
 -- `adjacency::inner::disagrees` meets its contract. The invariant: each list passed agrees.
 -- Assumes nothing.
-use mathlib.Core.Bool.{not, true}
+use mathlib.Core.Bool.{not}
 use mathlib.Core.Path.{sym, ap, ◌∙◌}
-use Prim.Native.Nat.{◌-◌}
 use native.Mathlib.Omega.{arith}
-use Rattle.adjacency.specs.Checks.{agrees_at, agrees, disagree}
+use Rattle.adjacency.specs.Checks.{agrees, disagree}
 use Rattle.loops.proofs.TestLaws.{all_none, all_more, all-fails, all_end}
 use Rattle.adjacency.proofs.inner.disagrees.Goals as goal
 

@@ -1,7 +1,7 @@
 -- `adjacency::inner::four_sums` meets its contract. The invariant: the entries passed are the sums of their words, and the others are 0.
 -- Assumes nothing.
 use mathlib.Core.Path.{◌≡◌, refl, sym, ◌∙◌}
-use Prim.Native.Nat.{◌+◌, ◌-◌, ◌*◌, ◌/◌, ◌<◌}
+use Prim.Native.Nat.{◌+◌, ◌*◌, ◌/◌, ◌<◌}
 use native.Mathlib.Omega.{arith}
 use lib.ListN.{length, length-set}
 use Rattle.adjacency.proofs.FourLaws.{made_none, made_more, made_all, sixteens-most, fours-taken}

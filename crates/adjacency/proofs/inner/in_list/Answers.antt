@@ -1,7 +1,6 @@
 -- `adjacency::inner::in_list` meets its contract. The invariant: x is in what is left exactly where it is in the whole.
 -- Assumes nothing.
 use mathlib.Core.Path.{refl}
-use Prim.Native.Nat.{◌-◌}
 use native.Mathlib.Omega.{arith}
 use Rattle.loops.proofs.TestLaws.{elem-turn, elem-found, elem_end}
 use Rattle.adjacency.proofs.inner.in_list.Goals as goal

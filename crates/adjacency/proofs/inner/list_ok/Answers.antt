@@ -1,7 +1,6 @@
 -- `adjacency::inner::list_ok` meets its contract. The invariant: what is left is as it must be after the last id exactly where the whole list is.
 -- Assumes nothing.
 use mathlib.Core.Path.{sym}
-use Prim.Native.Nat.{◌-◌}
 use native.Mathlib.Omega.{arith}
 use Rattle.adjacency.proofs.ListLaws.{rises-turn, rises-stop, rises-end, list_ok_none, list_ok-some}
 use Rattle.adjacency.proofs.inner.list_ok.Goals as goal

@@ -1,8 +1,6 @@
 -- `adjacency::inner::lists_ok` meets its contract. The invariant: each list passed is as it must be.
 -- Assumes nothing.
-use mathlib.Core.Bool.{true}
 use mathlib.Core.Path.{◌≡◌, sym, ap, ◌∙◌}
-use Prim.Native.Nat.{◌-◌}
 use native.Mathlib.Omega.{arith}
 use Rattle.adjacency.specs.Tables.{table, list_at}
 use Rattle.adjacency.specs.Checks.{list_ok, lists_ok}

@@ -1,7 +1,7 @@
 -- `adjacency::inner::over_weight` meets its contract. The invariant: the sum is that of the weights passed, and at most 1,024.
 -- Assumes nothing.
 use mathlib.Core.Path.{◌≡◌, refl, sym, ap}
-use Prim.Native.Nat.{◌-◌, ◌+◌}
+use Prim.Native.Nat.{◌+◌}
 use native.Mathlib.Omega.{arith}
 use lib.ListN.{length}
 use borrow.Author.Tests.{lt-ltb, le-ltb}

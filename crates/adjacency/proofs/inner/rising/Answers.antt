@@ -1,8 +1,6 @@
 -- `adjacency::inner::rising` meets its contract. The invariant: no offset passed falls.
 -- Assumes nothing.
-use mathlib.Core.Bool.{true}
 use mathlib.Core.Path.{sym}
-use Prim.Native.Nat.{◌-◌}
 use native.Mathlib.Omega.{arith}
 use borrow.Author.Tests.{le-leb, lt-leb}
 use Rattle.adjacency.specs.Checks.{rises_at}

@@ -1,6 +1,6 @@
 -- `adjacency::inner::sum_of` meets its contract. The invariant: the sum is right but for the fours that are still to be looked up.
 -- Assumes nothing.
-use Prim.Native.Nat.{◌+◌, ◌-◌, ◌≤◌}
+use Prim.Native.Nat.{◌+◌, ◌≤◌}
 use native.Mathlib.Omega.{arith}
 use lib.ListN.{length}
 use Rattle.adjacency.proofs.FourLaws.{halfway-first, halfway_next, halfway-end}

@@ -1,7 +1,6 @@
 -- `adjacency::inner::weighted_mask` meets its contract. The invariant: the word is gathered from the patterns passed.
 -- Assumes nothing.
 use mathlib.Core.Path.{◌≡◌, sym, ap, ◌∙◌}
-use Prim.Native.Nat.{◌-◌}
 use native.Mathlib.Numerals.{add-one}
 use native.Mathlib.Omega.{arith}
 use lib.ListN.{length}
@@ -22,7 +21,7 @@ loop-p-preserved c =
       omega arith,
       rw (add-one p)
           (elim c.if-weights-p-ne0.branch [
-            then-weights-p-ne0 w ↦ w.word-is ∙ w.with_pattern-word.ensures ∙ ap (λ x. joined x p) c.loop-p.invariant.1 ∙ sym (gathered_more (weighted ws) p (true-weighted ws p (omega arith)))
+            | then-weights-p-ne0 w ↦ w.word-is ∙ w.with_pattern-word.ensures ∙ ap (λ x. joined x p) c.loop-p.invariant.1 ∙ sym (gathered_more (weighted ws) p (true-weighted ws p (omega arith)))
             | else-weights-p-ne0 w ↦ w.word-is ∙ c.loop-p.invariant.1 ∙ sym (gathered-skip (weighted ws) p (false-weighted ws p w.if-weights-p-ne0.false))
           ]),
     )

@@ -1,7 +1,6 @@
 -- `choice::inner::forget` meets its contract. The invariant: what is left to make zero leaves what was to be left.
 -- Assumes nothing.
 use mathlib.Core.Path.{refl, sym, ◌∙◌}
-use Prim.Native.Nat.{◌-◌}
 use native.Mathlib.Omega.{arith}
 use lib.ListN.{length-set}
 use Rattle.choice.proofs.CacheLaws.{zeroed_turn, zeroed_end, zeroed_forgotten}

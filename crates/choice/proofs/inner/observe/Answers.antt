@@ -1,6 +1,5 @@
 -- `choice::inner::observe` meets its contract: after y blocks the best is that of their cells, and their marks are what a look gives.
 -- Assumes nothing.
-use Prim.Native.Nat.{◌-◌}
 use native.Mathlib.Omega.{arith}
 use Rattle.choice.proofs.WalkLaws.{upto-start, walk_lengths, walk-fresh, walk_inside, walk-long, walk_turn, walk_end}
 use Rattle.choice.proofs.inner.observe.Goals as goal
@@ -17,7 +16,7 @@ overflow_add-cells c = omega (arith, c.loop-y.invariant.some, c.requires.lengths
 pub renew-mark-requires : goal.renew-mark-requires
 renew-mark-requires c =
     let each = c.requires.lengths in
-    record { lengths = (walk_lengths each c.loop-y.invariant, omega (arith, c.loop-y.invariant.long, each.marked, c.loop-y-test.true)); fresh = walk-fresh each c.loop-y.invariant; }
+    record { lengths = (walk_lengths each c.loop-y.invariant, omega (arith, c.loop-y.invariant.long, each.marked, c.loop-y-test.true)); fresh = walk-fresh each c.loop-y.invariant }
 
 pub overflow_mul-y : goal.overflow_mul-y
 overflow_mul-y c =

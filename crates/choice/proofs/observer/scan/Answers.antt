@@ -1,7 +1,6 @@
 -- `choice::observer::scan` meets its contract: after each turn the best is that of the cells passed.
 -- Assumes nothing.
 use mathlib.Core.Path.{◌≡◌, ◌∙◌}
-use Prim.Native.Nat.{◌-◌}
 use native.Mathlib.Omega.{arith}
 use Rattle.choice.proofs.ObserverLaws.{scan-start, scan-turn}
 use Rattle.choice.proofs.BestLaws.{best_none}
