@@ -1,5 +1,7 @@
 // The run: forbids are laid, then a cell is observed and a pattern chosen there until the run ends.
 // Follows docs/RULES.md, "Run" and "Refusals". Main property: every call is what `called` says of its inputs, so an ocean that is Decided violates no list.
+#![tactic(auto)]
+
 ghost use Rattle.std.specs.Prelude.{◌≡◌};
 ghost use Rattle.adjacency.specs.Tables.{table};
 ghost use Rattle.grid.specs.Grid.{grid};

@@ -6,8 +6,7 @@ use native.Mathlib.Omega.{arith}
 use Rattle.refusals.specs.Refusals.{Asked, answer}
 use Rattle.course.specs.Called.{End}
 use Rattle.run.specs.Answers.{answer_told}
-use Rattle.run.proofs.inner.answer.Statement.{statement}
-use Rattle.run.proofs.inner.answer.Tie as tie
+use Rattle.run.proofs.inner.answer.Goals as goal
 
 abbrev ends : ℕ → ℕ → Asked End
 ends used end = answer (record { end = end; used = used })
@@ -18,21 +17,18 @@ told used e = ap (ends used) (sym e)
 last : (n : ℕ) → n ≤ 3 → ((Unit {0} × (n ≡ 0 → ⊥)) × (n ≡ 1 → ⊥)) × (n ≡ 2 → ⊥) → n ≡ 3
 last n h (((_, a), b), c) = omega (arith, a, b, c)
 
-returns : tie.Need-returns
+pub returns-in-0 : goal.returns-in-0
 unfolding answer_told
-returns c = told c.before.args.used c.match.keys1
+returns-in-0 c = told c.args.used c.in-0.is
 
-returns-2 : tie.Need-returns-2
+pub returns-in-1 : goal.returns-in-1
 unfolding answer_told
-returns-2 c = told c.before.args.used c.match.keys2
+returns-in-1 c = told c.args.used c.in-1.is
 
-returns-3 : tie.Need-returns-3
+pub returns-in-2 : goal.returns-in-2
 unfolding answer_told
-returns-3 c = told c.before.args.used c.match.keys3
+returns-in-2 c = told c.args.used c.in-2.is
 
-returns-4 : tie.Need-returns-4
+pub returns-in_default : goal.returns-in_default
 unfolding answer_told
-returns-4 c = told c.before.args.used (last c.before.args.end c.before.requires c.match.rest)
-
-pub answer-spec : {M : Type 1} → statement M
-answer-spec = tie.close (tie.spec returns returns-2 returns-3 returns-4)
+returns-in_default c = told c.args.used (last c.args.end c.requires c.in_default.in_default-own.rest)

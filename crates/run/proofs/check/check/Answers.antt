@@ -1,0 +1,92 @@
+-- `run::check::check` meets its contract: each return gives the first refusal whose test holds.
+-- Assumes nothing.
+use mathlib.Core.Bool.{false}
+use mathlib.Core.Path.{◌≡◌, refl, sym, ◌∙◌}
+use Prim.Native.Nat.{◌+◌, ◌*◌}
+use native.Mathlib.Omega.{arith}
+use lib.ListN.{length}
+use Rattle.refusals.specs.Refusals.{number_of}
+use Rattle.adjacency.specs.Tables.{table}
+use Rattle.adjacency.specs.Checks.{bad_count, over_weight, bad_list, disagree}
+use Rattle.grid.specs.Grid.{grid, bad_size, bad_wrap, Sized}
+use Rattle.course.specs.Called.{room, bad_lengths}
+use Rattle.adjacency.proofs.ListLaws.{listed}
+use Rattle.adjacency.proofs.AcceptedLaws.{counted, offsets_long}
+use Rattle.grid.proofs.GridLaws.{sized_of}
+use Rattle.course.proofs.CalledLaws.{base_tests-is, lengths_granted}
+use Rattle.run.proofs.check.check.Goals as goal
+use Rattle.run.proofs.check.check.Goals.{Else-bad_count, Else-bad_size, Else-bad_wrap, Else-bad_lengths, Else-over_weight, Else-bad_list, Else-disagrees}
+
+-- ---- the tests that did not hold
+count-good : (c : Else-bad_count) → let a = c.args in bad_count a.count ≡ false
+count-good c = sym c.bad_count.ensures ∙ c.if-bad_count.false
+
+size-good : (c : Else-bad_size) → let a = c.args in bad_size a.width a.height ≡ false
+size-good c = sym c.bad_size.ensures ∙ c.if-bad_size.false
+
+wrap-good : (c : Else-bad_wrap) → let a = c.args in bad_wrap a.mode ≡ false
+wrap-good c = sym c.bad_wrap.ensures ∙ c.if-bad_wrap.false
+
+lengths_good : (c : Else-bad_lengths) → let a = c.args in bad_lengths a.count (a.height * a.width) a.weights.now a.offsets.now a.noise.now a.forbids (room a.domains a.counts a.pending a.floats a.marks) ≡ false
+lengths_good c = sym c.bad_lengths.ensures ∙ c.if-bad_lengths.false
+
+weight-good : (c : Else-over_weight) → let a = c.args in over_weight a.weights.now ≡ false
+weight-good c = sym c.over_weight.ensures ∙ c.if-over_weight.false
+
+list-good : (c : Else-bad_list) → let a = c.args in bad_list (table a.count a.offsets.now a.ids.now) ≡ false
+list-good c = sym c.bad_list.ensures ∙ c.if-bad_list.false
+
+agree-good : (c : Else-disagrees) → let a = c.args in disagree (table a.count a.offsets.now a.ids.now) ≡ false
+agree-good c = sym c.disagrees.ensures ∙ c.if-disagrees.false
+
+sized : (c : Else-bad_wrap) → let a = c.args in Sized (grid a.width a.height a.mode)
+sized c = sized_of _ (size-good (goal.at.Else-bad_wrap c).Else-bad_size) (wrap-good c)
+
+long : (c : Else-bad_lengths) → let a = c.args in length a.offsets.now ≡ 4 * a.count + 1
+long c = let (_, offsets, _, _, _) = lengths_granted _ _ _ _ _ _ _ (lengths_good c) in offsets_long _ _ offsets
+
+-- ---- the needs
+pub overflow_mul-height : goal.overflow_mul-height
+overflow_mul-height c = omega (arith, (sized c).few)
+
+pub bad_lengths-requires : goal.bad_lengths-requires
+bad_lengths-requires c = ((counted _ (count-good (goal.at.bad_lengths-requires c).Else-bad_count)).1, (sized c).few)
+
+pub bad_list-requires : goal.bad_list-requires
+bad_list-requires c = long (goal.at.bad_list-requires c).Else-bad_lengths
+
+pub disagrees-requires : goal.disagrees-requires
+disagrees-requires c = listed _ (long (goal.at.disagrees-requires c).Else-bad_lengths) (list-good c)
+
+-- ---- the returns
+pub returns-then-bad_count : goal.returns-then-bad_count
+unfolding number_of
+returns-then-bad_count c = sym (base_tests-is _ _ _ (sym c.bad_count.ensures ∙ c.if-bad_count.true) refl refl refl refl refl refl)
+
+pub returns-then-bad_size : goal.returns-then-bad_size
+unfolding number_of
+returns-then-bad_size c = sym (base_tests-is _ _ _ (count-good (goal.at.returns-then-bad_size c).Else-bad_count) (sym c.bad_size.ensures ∙ c.if-bad_size.true) refl refl refl refl refl)
+
+pub returns-then-bad_wrap : goal.returns-then-bad_wrap
+unfolding number_of
+returns-then-bad_wrap c = sym (base_tests-is _ _ _ (count-good (goal.at.returns-then-bad_wrap c).Else-bad_count) (size-good (goal.at.returns-then-bad_wrap c).Else-bad_size) (sym c.bad_wrap.ensures ∙ c.if-bad_wrap.true) refl refl refl refl)
+
+pub returns-then-bad_lengths : goal.returns-then-bad_lengths
+unfolding number_of
+returns-then-bad_lengths c = sym (base_tests-is _ _ _ (count-good (goal.at.returns-then-bad_lengths c).Else-bad_count) (size-good (goal.at.returns-then-bad_lengths c).Else-bad_size) (wrap-good (goal.at.returns-then-bad_lengths c).Else-bad_wrap) (sym c.bad_lengths.ensures ∙ c.if-bad_lengths.true) refl refl refl)
+
+pub returns-then-over_weight : goal.returns-then-over_weight
+unfolding number_of
+returns-then-over_weight c = sym (base_tests-is _ _ _ (count-good (goal.at.returns-then-over_weight c).Else-bad_count) (size-good (goal.at.returns-then-over_weight c).Else-bad_size) (wrap-good (goal.at.returns-then-over_weight c).Else-bad_wrap) (lengths_good (goal.at.returns-then-over_weight c).Else-bad_lengths) (sym c.over_weight.ensures ∙ c.if-over_weight.true) refl refl)
+
+pub returns-then-bad_list : goal.returns-then-bad_list
+unfolding number_of
+returns-then-bad_list c = sym (base_tests-is _ _ _ (count-good (goal.at.returns-then-bad_list c).Else-bad_count) (size-good (goal.at.returns-then-bad_list c).Else-bad_size) (wrap-good (goal.at.returns-then-bad_list c).Else-bad_wrap) (lengths_good (goal.at.returns-then-bad_list c).Else-bad_lengths) (weight-good (goal.at.returns-then-bad_list c).Else-over_weight) (sym c.bad_list.ensures ∙ c.if-bad_list.true) refl)
+
+pub returns-then-disagrees : goal.returns-then-disagrees
+unfolding number_of
+returns-then-disagrees c = sym (base_tests-is _ _ _ (count-good (goal.at.returns-then-disagrees c).Else-bad_count) (size-good (goal.at.returns-then-disagrees c).Else-bad_size) (wrap-good (goal.at.returns-then-disagrees c).Else-bad_wrap) (lengths_good (goal.at.returns-then-disagrees c).Else-bad_lengths) (weight-good (goal.at.returns-then-disagrees c).Else-over_weight) (list-good (goal.at.returns-then-disagrees c).Else-bad_list) (sym c.disagrees.ensures ∙ c.if-disagrees.true))
+
+pub returns : goal.returns
+unfolding number_of
+returns c = sym (base_tests-is _ _ _ (count-good (goal.at.returns c).Else-bad_count) (size-good (goal.at.returns c).Else-bad_size) (wrap-good (goal.at.returns c).Else-bad_wrap) (lengths_good (goal.at.returns c).Else-bad_lengths) (weight-good (goal.at.returns c).Else-over_weight) (list-good (goal.at.returns c).Else-bad_list) (agree-good c))
