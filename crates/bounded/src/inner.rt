@@ -10,7 +10,7 @@ mod reading;
 mod running;
 
 // The grid of a sheet that the programs take.
-#[derive(Drop)]
+#[derive(Clone, Copy)]
 pub struct Ground {
     pub width: usize,
     pub height: usize,
@@ -19,7 +19,7 @@ pub struct Ground {
 }
 
 // What a sheet is to the programs: one that they take; one that is refused, with the number; or one that only the library takes.
-#[derive(Drop)]
+#[derive(Clone, Copy)]
 pub enum Taken {
     Sheet(Ground),
     Refused(u32),
@@ -27,7 +27,7 @@ pub enum Taken {
 }
 
 // How a run ended, with the words that it used and the length of its result; or why there was none, as above.
-#[derive(Drop)]
+#[derive(Clone, Copy)]
 pub enum Laid {
     Ended(u32, usize, usize),
     Refused(u32),

@@ -11,7 +11,7 @@ use crate::blocks;
 use notes::inner::Note;
 
 // Which cell to observe, with its entropy, or nothing.
-#[derive(Drop)]
+#[derive(Clone, Copy)]
 pub enum Observed {
     Cell(usize, f32),
     Nothing,

@@ -13,7 +13,7 @@ pub mod inner;
 mod observer;
 
 // What asking for a choice comes to: a pattern, nothing for a domain without a weighted pattern, or the refusal.
-#[derive(Drop)]
+#[derive(Clone, Copy)]
 pub enum Choice {
     Pattern(usize),
     Nothing,

@@ -4,14 +4,14 @@ ghost use Rattle.command.specs.Arguments as meaning;
 ghost use Rattle.command.specs.Arguments.{same_text, kind_of, number_told, digit_more, number_in, empty_plan, with_fault, with_wait, with_seed, with_svg, with_file, with_word, stepped, fault_of};
 
 // A number that was read, or none.
-#[derive(Drop)]
+#[derive(Clone, Copy)]
 pub enum Number {
     Is(u32),
     Not,
 }
 
 // What the arguments ask for so far.
-#[derive(Drop)]
+#[derive(Clone, Copy)]
 pub struct Plan {
     // The seed, where `seeded`.
     pub seed: u32,

@@ -7,7 +7,7 @@ use crate::arguments::{Number, Plan, same};
 use crate::sentences::{CLASH, NO_NAME};
 
 // Which arguments name the files, 0 for none.
-#[derive(Drop)]
+#[derive(Clone, Copy)]
 pub struct Names {
     pub sheet: usize,
     pub noise: usize,
@@ -17,7 +17,7 @@ pub struct Names {
 }
 
 // How many words a file has, or that it ends within one.
-#[derive(Drop)]
+#[derive(Clone, Copy)]
 pub enum Words {
     Whole(usize),
     Cut,

@@ -10,7 +10,7 @@ use sheet::{Measures, SizesAnswer};
 mod search;
 
 // Patterns, forbids and cells are told by their numbers, from 0.
-#[derive(Drop)]
+#[derive(Clone, Copy)]
 pub enum Place {
     // No place, or none that was searched for.
     Nowhere,

@@ -36,7 +36,7 @@ pub fn bad_wrap(mode: usize) -> bool
 }
 
 // Where a step along one side leads: to a place on it, or off its edge.
-#[derive(Drop)]
+#[derive(Clone, Copy)]
 enum Place {
     At(usize),
     Off,

@@ -12,14 +12,14 @@ use refusals::Refusal;
 pub mod inner;
 
 // What lies in a direction of a cell.
-#[derive(Drop)]
+#[derive(Clone, Copy)]
 pub enum Near {
     Cell(usize),
     Edge,
 }
 
 // The same, or why it cannot be said.
-#[derive(Drop)]
+#[derive(Clone, Copy)]
 pub enum NearAnswer {
     Found(Near),
     Refused(Refusal),

@@ -13,7 +13,7 @@ pub mod inner;
 mod table;
 
 // What asking for an entropy comes to: an entropy, nothing for a domain without a weighted pattern, or the refusal.
-#[derive(Drop)]
+#[derive(Clone, Copy)]
 pub enum EntropyAnswer {
     Entropy(f32),
     Nothing,

@@ -6,7 +6,7 @@
 pub mod inner;
 
 // Why a call is refused.
-#[derive(Drop)]
+#[derive(Clone, Copy)]
 pub enum Refusal {
     BadSize,
     BadWrap,
@@ -22,7 +22,7 @@ pub enum Refusal {
 }
 
 // What a call that checks and does nothing else answers.
-#[derive(Drop)]
+#[derive(Clone, Copy)]
 pub enum Verdict {
     Accepted,
     Refused(Refusal),

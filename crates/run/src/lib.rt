@@ -19,7 +19,7 @@ mod numbers;
 pub use numbers::run_numbers;
 
 // How a run ended, with the number of words that it used; or why there was none.
-#[derive(Drop)]
+#[derive(Clone, Copy)]
 pub enum Answer {
     Decided(usize),
     Undecided(usize),

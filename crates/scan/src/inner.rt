@@ -5,7 +5,7 @@ ghost use Rattle.scan.specs.Scanning.{passing, listing, within, counted, griddin
 use records::inner::wide;
 
 // Where in a sheet the next byte stands, and what has to be known of the bytes before it.
-#[derive(Drop)]
+#[derive(Clone, Copy)]
 pub enum Scan {
     // Nowhere: no sheet begins with the bytes so far.
     Bad,

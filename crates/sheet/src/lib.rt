@@ -1,5 +1,7 @@
 // Sheets: the stored form of a table, a grid and forbids.
 // Follows docs/RULES.md, "Sheet". Main property: reading undoes writing and writing undoes reading, for every sheet that is accepted.
+#![tactic(auto)]
+
 ghost use Rattle.std.specs.Prelude.{◌≡◌};
 ghost use Rattle.adjacency.specs.Tables.{table};
 ghost use Rattle.grid.specs.Grid.{grid};
@@ -15,7 +17,7 @@ mod result;
 pub use result::run_result;
 
 // How much a sheet holds: patterns, ids, the grid, and forbids.
-#[derive(Drop)]
+#[derive(Clone, Copy)]
 pub struct Measures {
     pub count: usize,
     pub ids: usize,
@@ -26,14 +28,14 @@ pub struct Measures {
 }
 
 // The same, or why it cannot be said.
-#[derive(Drop)]
+#[derive(Clone, Copy)]
 pub enum SizesAnswer {
     Sheet(Measures),
     Refused(Refusal),
 }
 
 // How many bytes were written, or why none were.
-#[derive(Drop)]
+#[derive(Clone, Copy)]
 pub enum Written {
     Bytes(usize),
     Refused(Refusal),

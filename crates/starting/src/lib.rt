@@ -15,7 +15,7 @@ mod given;
 mod settle;
 
 // What propagation of starting domains answers.
-#[derive(Drop)]
+#[derive(Clone, Copy)]
 pub enum Propagated {
     Consistent,
     Contradiction,

@@ -26,7 +26,7 @@ pub fn least(a: usize, b: usize) -> usize
 // ---- a number of the stream
 
 // What a stream has next: a number, nothing since it ends here, or less than a number.
-#[derive(Drop)]
+#[derive(Clone, Copy)]
 pub enum Next {
     Number(u32),
     End,

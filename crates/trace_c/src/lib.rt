@@ -18,7 +18,7 @@ const OUTSIDE: u32 = 4294967294;
 const NOTHING: u32 = 4294967293;
 
 // A choice, and the code of where it leaves the run: 0 to go on.
-#[derive(Drop)]
+#[derive(Clone, Copy)]
 struct Made {
     code: u32,
     cell: u32,

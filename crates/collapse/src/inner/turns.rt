@@ -19,14 +19,14 @@ use choice::inner::Observed;
 use propagation::inner::Pile;
 
 // What a turn comes to: the run is over with this end, or it goes on with one more word used.
-#[derive(Drop)]
+#[derive(Clone, Copy)]
 pub enum Step {
     Over(u32),
     On(Pile),
 }
 
 // Where the turns stand: the run's end, or 4 while it goes on, and how many words are used.
-#[derive(Drop)]
+#[derive(Clone, Copy)]
 pub struct Stop {
     pub end: u32,
     pub used: usize,

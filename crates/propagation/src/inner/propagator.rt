@@ -20,7 +20,7 @@ ghost use Rattle.consistency.specs.Worklist as worklist;
 use grid::Near;
 
 // The pile of removals that are pending: its height, and whether a cell was emptied.
-#[derive(Drop)]
+#[derive(Clone, Copy)]
 pub struct Pile {
     pub top: usize,
     pub empty: bool,
