@@ -1,0 +1,41 @@
+-- `bounded::inner::reading::read_in` meets its contract: refused by length, by form, by count, or as `sheet::read` answers.
+-- Assumes nothing.
+use mathlib.Core.Path.{sym, ◌∙◌}
+use native.Mathlib.Omega.{arith}
+use lib.Seq.{length-take-le}
+use Rattle.layout.specs.Lending.{lent}
+use Rattle.bounded.proofs.ReadLaws.{sizes_none, sizes-some, read-long, read_short, read-many, read_whole}
+use Rattle.bounded.proofs.inner.reading.read_in.Goals as goal
+
+pub returns-then-sheet-gt90272 : goal.returns-then-sheet-gt90272
+returns-then-sheet-gt90272 c = λ b H.
+    let a = c.args in
+    read-long H (lent a.weights.now a.offsets.now a.ids.now a.forbids.now) c.if-sheet-gt90272.true c.long_refusal.ensures
+
+pub returns-then-m-gt64 : goal.returns-then-m-gt64
+returns-then-m-gt64 c = λ b H.
+    let a = c.args in
+    let m = c.in-Sheet.m in
+    let (w, e) = sizes-some a.sheet.now m c.in-Sheet.is c.sizes.ensures in
+    read-many a.sheet.now m w e (lent a.weights.now a.offsets.now a.ids.now a.forbids.now) c.if-m-gt64.true
+    ∙ read_short H (lent a.weights.now a.offsets.now a.ids.now a.forbids.now) c.if-sheet-gt90272.false
+
+pub slice_bounds-read-end-in-Sheet : goal.slice_bounds-read-end-in-Sheet
+slice_bounds-read-end-in-Sheet c = sym (length-take-le _ _ (omega (arith, c.requires.weights_long)))
+
+pub slice_bounds-read-end-in-Sheet-3 : goal.slice_bounds-read-end-in-Sheet-3
+slice_bounds-read-end-in-Sheet-3 c = sym (length-take-le _ _ (omega (arith, c.requires.offsets_long)))
+
+pub returns-in-Refused : goal.returns-in-Refused
+returns-in-Refused c = λ b H.
+    let a = c.args in
+    sizes_none a.sheet.now (lent a.weights.now a.offsets.now a.ids.now a.forbids.now) c.in-Refused.refusal c.in-Refused.is c.sizes.ensures
+    ∙ read_short H (lent a.weights.now a.offsets.now a.ids.now a.forbids.now) c.if-sheet-gt90272.false
+
+pub returns-else-m-gt64 : goal.returns-else-m-gt64
+returns-else-m-gt64 c = λ b H.
+    let a = c.args in
+    let m = c.in-Sheet.m in
+    let (w, e) = sizes-some a.sheet.now m c.in-Sheet.is c.sizes.ensures in
+    read_whole a.sheet.now m w e c.if-sheet-gt90272.false a.weights.now a.offsets.now a.ids.now a.forbids.now c.requires c.if-m-gt64.false c.read.ensures
+    ∙ read_short H (lent a.weights.now a.offsets.now a.ids.now a.forbids.now) c.if-sheet-gt90272.false

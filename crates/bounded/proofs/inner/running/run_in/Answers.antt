@@ -1,0 +1,71 @@
+-- `bounded::inner::running::run_in` meets its contract: what is lent is as long as a run wants it, so only the noise can be refused.
+-- Assumes nothing.
+use mathlib.Core.Path.{refl, sym}
+use Prim.Native.Nat.{◌+◌, ◌*◌}
+use native.Mathlib.Omega.{arith}
+use lib.ListN.{take}
+use lib.Seq.{length-take-le}
+use Rattle.adjacency.specs.Tables.{table}
+use Rattle.grid.specs.Grid.{grid}
+use Rattle.notes.specs.Blocks.{blocks}
+use Rattle.course.specs.Run.{given}
+use Rattle.course.specs.Called.{memory}
+use Rattle.bounded.proofs.RunLaws.{lay-ran, runnable_few, lent-measured}
+use Rattle.bounded.proofs.inner.running.run_in.Goals as goal
+
+pub overflow_mul-cells : goal.overflow_mul-cells
+overflow_mul-cells c = omega (arith, runnable_few c.requires.0)
+
+pub slice_bounds-run_result-end : goal.slice_bounds-run_result-end
+slice_bounds-run_result-end c = omega (arith, runnable_few c.requires.0, c.requires.1)
+
+pub slice_bounds-run_result-end-2 : goal.slice_bounds-run_result-end-2
+slice_bounds-run_result-end-2 c = sym (length-take-le _ _ (omega (arith, runnable_few c.requires.0, c.requires.1)))
+
+pub slice_bounds-run_result-end-3 : goal.slice_bounds-run_result-end-3
+slice_bounds-run_result-end-3 c = sym (length-take-le _ _ (omega (arith, c.requires.0.small, c.counts_to_lend-counts.ensures)))
+
+pub slice_bounds-run_result-end-4 : goal.slice_bounds-run_result-end-4
+slice_bounds-run_result-end-4 c = sym (length-take-le _ _ (omega (arith, c.requires.0.small, c.pending_to_lend-pending.ensures)))
+
+pub overflow_mul-floats : goal.overflow_mul-floats
+overflow_mul-floats c = omega (arith, runnable_few c.requires.0)
+
+pub slice_bounds-floats-end : goal.slice_bounds-floats-end
+slice_bounds-floats-end c = omega (arith, runnable_few c.requires.0, c.floats_to_lend-floats.ensures)
+
+pub slice_bounds-run_result-end-5 : goal.slice_bounds-run_result-end-5
+slice_bounds-run_result-end-5 c = sym (length-take-le _ _ (omega (arith, runnable_few c.requires.0, c.floats_to_lend-floats.ensures)))
+
+pub overflow_mul-marks : goal.overflow_mul-marks
+overflow_mul-marks c = omega (arith, runnable_few c.requires.0)
+
+pub overflow_add-marks : goal.overflow_add-marks
+overflow_add-marks c = omega (arith, runnable_few c.requires.0)
+
+pub overflow_add-marks-2 : goal.overflow_add-marks-2
+overflow_add-marks-2 c = omega (arith, runnable_few c.requires.0)
+
+pub slice_bounds-marks-end : goal.slice_bounds-marks-end
+slice_bounds-marks-end c = omega (arith, runnable_few c.requires.0, c.marks_to_lend-marks.ensures)
+
+pub slice_bounds-run_result-end-6 : goal.slice_bounds-run_result-end-6
+slice_bounds-run_result-end-6 c = sym (length-take-le _ _ (omega (arith, runnable_few c.requires.0, c.marks_to_lend-marks.ensures)))
+
+pub laid_as-requires : goal.laid_as-requires
+laid_as-requires c = omega (arith, runnable_few c.requires.0)
+
+pub returns : goal.returns
+returns c =
+    let a = c.args in
+    let pre = c.requires in
+    let run = c.run_result-answer in
+    let counts = c.counts_to_lend-counts in
+    let pending = c.pending_to_lend-pending in
+    let floats = c.floats_to_lend-floats in
+    let marks = c.marks_to_lend-marks in
+    let n = a.height * a.width in
+    let small = runnable_few pre.0 in
+    let lent = memory (take n a.domains.now) (take (4 * (n * a.count)) counts.result) (take (n * a.count) pending.result) (take (2 * n) floats.result) (take (2 * n + blocks n) marks.result) in
+    let M = lent-measured n a.count a.domains.now counts.result pending.result floats.result marks.result small pre.0.small pre.1 counts.ensures pending.ensures floats.ensures marks.ensures in
+    lay-ran (given (table a.count a.offsets.now a.ids.now) a.weights.now (grid a.width a.height a.mode) a.noise.now) a.forbids.now pre.0 lent M a.out.now (omega (arith, small, pre.2)) a.words.now a.domains.now refl (omega (arith, run.auto.domains)) run.ensures c.laid_as.ensures
