@@ -1,7 +1,6 @@
 -- `trace_c::choose_all` is safe and ends. The invariant: the steps so far lead where the next may go on, and there is room to tell a choice for each word.
 -- Assumes nothing.
 use mathlib.Core.Path.{refl, ap, ◌∙◌}
-use Prim.Native.Nat.{◌-◌}
 use native.Mathlib.Omega.{arith}
 use lib.ListN.{length-set}
 use Rattle.course.specs.Called.{Room, memory}

@@ -1,7 +1,6 @@
 -- `trace_c::lay_all` meets its contract. The invariant: the steps so far lead where the next may go on.
 -- Assumes nothing.
 use mathlib.Core.Path.{refl, ap, ◌∙◌}
-use Prim.Native.Nat.{◌-◌}
 use native.Mathlib.Omega.{arith}
 use Rattle.course.specs.Called.{Room, memory}
 use Rattle.run.proofs.StandingLaws.{room_same}
