@@ -2,6 +2,8 @@
 // pointer and how many entries there are; include/murghidossu.h declares them.
 // Follows docs/RULES.md, "Refusals". Main property: an answer is one number, which tells it whole (specs/Coded.antt).
 
+#![tactic(auto)]
+
 mod asked;
 mod codes;
 mod laying;

@@ -1,6 +1,8 @@
 // The choices of a run, told one by one, for the comparison with the Rust (oracle/) and nothing else: no public call tells them.
 // They are made by the run's own steps: what is observed, the pattern that a word chooses there, and that choice laid as a forbid that keeps only the pattern.
 // Follows docs/RULES.md, "Run". Its contracts say that the slices stay as each step must find them; what is told is compared, not proved.
+#![tactic(auto)]
+
 ghost use Rattle.std.specs.Prelude.{◌≡◌, ◌*◌, ◌≤◌, length};
 ghost use Rattle.adjacency.specs.Tables.{table};
 ghost use Rattle.grid.specs.Grid.{grid};
