@@ -1,6 +1,6 @@
 /* Murghidossu for C: every public call of the library.
  *
- * `rt staticlib ocean_c` writes the archive, target/staticlib/libocean_c.a, for x86-64 Linux. It calls memcpy and memset and nothing else.
+ * `rt lib`, in crates/ocean_c, writes the archive, crates/ocean_c/out/libocean_c.a, for x86-64 Linux. It calls memcpy and memset and nothing else.
  * docs/RULES.md says what each call does, docs/CONTRACTS.md which proved contract stands behind it.
  *
  * SLICES. A slice is two arguments: a pointer, and how many entries lie there (not bytes). "Published length" is the one length that a

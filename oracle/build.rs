@@ -16,7 +16,7 @@ fn main() {
     println!("cargo:rerun-if-changed={}", PUBLISHED);
 
     let root = env::var("CARGO_MANIFEST_DIR").expect("this folder");
-    // bench/run has them elsewhere where the machine is not x86-64
+    // oracle/compare puts both of them into one folder, and bench/run has them elsewhere
     println!("cargo:rerun-if-env-changed=MURGHIDOSSU_ARCHIVES");
     let archives = env::var("MURGHIDOSSU_ARCHIVES").unwrap_or(format!("{}/../target/staticlib", root));
     println!("cargo:rustc-link-search=native={}", archives);

@@ -1,12 +1,12 @@
 #!/usr/bin/env python3
 """Cuts the recorded stream of replay at every byte of a case, and holds what the program writes and says to docs/RULES.md, "Programs".
 
-Run from the repository's root, after `./replay` or `rt check replay`. The gate runs a program once and compares standard output alone; where a stream ends,
+Run from the repository's root, after `./replay`, or `rt run` in crates/replay. The gate runs a program once and compares standard output alone; where a stream ends,
 that it cannot be read, and that an answer cannot be written, is told on standard error. /dev/full, which takes no byte, is Linux's."""
 from struct import calcsize, unpack_from
 from subprocess import PIPE, run
 
-PROGRAM = "target/bin/replay"
+PROGRAM = "crates/replay/out/replay"
 CUT_OFF, UNREADABLE = b"replay: the stream is cut off in a case\n", b"replay: the stream cannot be read\n"
 UNWRITTEN = b"replay: the answer could not be written\n"
 

@@ -5,6 +5,7 @@ use crate::choices::tell;
 use crate::{input, print};
 use run::Answer;
 use starting::Propagated;
+use std::io::Read;
 use stream::inner::{Next, least};
 
 pub(crate) fn wide(x: u32) -> usize
@@ -21,7 +22,7 @@ pub(crate) fn within(asked: u32, most: usize) -> usize
 }
 
 // What a call asks for: count and grid, and how much memory it is lent.
-#[derive(Drop)]
+#[derive(Clone, Copy)]
 pub(crate) struct Asked {
     pub(crate) count: usize,
     pub(crate) width: usize,
@@ -84,7 +85,7 @@ pub(crate) fn marks_to_lend() -> [u8; 2081]
 // ---- a run
 
 // What a run tells: a refusal's number, or 0 with the end and the words used.
-#[derive(Drop)]
+#[derive(Clone, Copy)]
 struct Told {
     refused: u32,
     end: u64,
@@ -164,50 +165,50 @@ fn solve(
 
 // Whether the first `many` domains are the same.
 fn same(a: &[u64; 1025], b: &[u64; 1025], many: usize) -> bool {
-    let mut c = 0;
-    while c < 1025 {
-        if c < many {
-            if a[c] != b[c] {
-                return false;
-            }
+    for c in 0..1025 {
+        if c < many && a[c] != b[c] {
+            return false;
         }
-        c += 1;
     }
     true
 }
 
 // Whether one of the first `many` domains is empty.
 fn emptied(a: &[u64; 1025], many: usize) -> bool {
-    let mut c = 0;
-    while c < 1025 {
-        if c < many {
-            if a[c] == 0 {
-                return true;
-            }
+    for c in 0..1025 {
+        if c < many && a[c] == 0 {
+            return true;
         }
-        c += 1;
     }
     false
 }
 
 // Says where the choices lead elsewhere than the run, which leaves all domains zero after a contradiction and has used a word for each choice.
-fn compare(told: Told, made: usize, a: &[u64; 1025], b: &[u64; 1025], many: usize) {
+fn compare<O: Print>(
+    out: &O,
+    told: Told,
+    made: usize,
+    a: &[u64; 1025],
+    b: &[u64; 1025],
+    many: usize,
+) {
     if made != told.used {
-        print::text(b"the choices are not as many as the words\n");
+        print::text(out, b"the choices are not as many as the words\n");
     }
     if told.end == 3 {
         if !emptied(b, many) {
-            print::text(b"the choices end in no contradiction\n");
+            print::text(out, b"the choices end in no contradiction\n");
         }
         return;
     }
     if !same(a, b, many) {
-        print::text(b"the choices lead to other domains\n");
+        print::text(out, b"the choices lead to other domains\n");
     }
 }
 
 // A run, told whole, or its refusal alone.
-fn run_told(
+fn run_told<O: Print>(
+    out: &O,
     whole: bool,
     head: &[u32; 17],
     forbids: &[u32],
@@ -231,14 +232,16 @@ fn run_told(
         &mut domains,
     ));
     if told.refused != 0 || !whole {
-        print::refused(told.refused);
+        print::refused(out, told.refused);
         return;
     }
-    print::end(told.end, told.used);
-    print::domains(&domains, many);
+    print::end(out, told.end, told.used);
+    print::domains(out, &domains, many);
     let mut again = domains_to_lend();
-    let made = tell(a, forbids, weights, offsets, ids, noise, words, &mut again);
-    compare(told, made, &domains, &again, many);
+    let made = tell(
+        out, a, forbids, weights, offsets, ids, noise, words, &mut again,
+    );
+    compare(out, told, made, &domains, &again, many);
 }
 
 // ---- propagation, and a list that is looked up
@@ -256,10 +259,8 @@ fn half(halves: &[u32], i: usize) -> u32 {
 
 // Puts starting domains, of two numbers for each.
 fn put_domains(halves: &[u32], domains: &mut [u64; 1025]) {
-    let mut c = 0;
-    while c < 1025 {
+    for c in 0..1025 {
         domains[c] = domain_of(half(halves, 2 * c), half(halves, 2 * c + 1));
-        c += 1;
     }
 }
 
@@ -301,21 +302,36 @@ fn starting(halves: &[u32]) -> [u64; 1025] {
 }
 
 // Propagation, told with what it leaves.
-fn propagate_told(head: &[u32; 17], offsets: &[u32], ids: &[u8], halves: &[u32]) {
+fn propagate_told<O: Print>(
+    out: &O,
+    head: &[u32; 17],
+    offsets: &[u32],
+    ids: &[u8],
+    halves: &[u32],
+) {
     let mut domains = starting(halves);
-    print::refused(refused_of(propagate(asked_of(head), offsets, ids, &mut domains)));
-    print::domains(&domains, wide(head[12]));
+    print::refused(
+        out,
+        refused_of(propagate(asked_of(head), offsets, ids, &mut domains)),
+    );
+    print::domains(out, &domains, wide(head[12]));
 }
 
 // A list that is looked up, told with the number of the call beside it.
-fn list_told(head: &[u32; 17], offsets: &[u32], ids: &[u8]) {
+fn list_told<O: Print>(out: &O, head: &[u32; 17], offsets: &[u32], ids: &[u8]) {
     let count = wide(head[0]);
     let pattern = wide(head[4]);
     let direction = wide(head[5]);
-    print::part(adjacency::list(count, offsets, ids, pattern, direction));
-    print::refused(refusals::inner::number_of(adjacency::list_refusal(
-        count, offsets, ids, pattern, direction,
-    )));
+    print::part(
+        out,
+        adjacency::list(count, offsets, ids, pattern, direction),
+    );
+    print::refused(
+        out,
+        refusals::inner::number_of(adjacency::list_refusal(
+            count, offsets, ids, pattern, direction,
+        )),
+    );
 }
 
 // ---- a call of the stream
@@ -332,7 +348,7 @@ fn part(numbers: &[u32], from: usize, many: usize) -> &[u32] {
 }
 
 // Makes and tells a call of which all is read.
-fn answer(call: u32, head: &[u32; 17], numbers: &[u32], ids: &[u8]) {
+fn answer<O: Print>(out: &O, call: u32, head: &[u32; 17], numbers: &[u32], ids: &[u8]) {
     let w = wide(head[6]);
     let o = w + wide(head[7]);
     let n = o + wide(head[8]);
@@ -345,12 +361,16 @@ fn answer(call: u32, head: &[u32; 17], numbers: &[u32], ids: &[u8]) {
     let forbids = part(numbers, r, wide(head[10]));
     let halves = part(numbers, f, wide(head[11]));
     match call {
-        0 => run_told(true, head, forbids, weights, offsets, ids, noise, words),
-        1 => run_told(false, head, forbids, weights, offsets, ids, noise, words),
-        2 => propagate_told(head, offsets, ids, halves),
-        3 => list_told(head, offsets, ids),
-        4 => crate::sheets::write_told(head, forbids, weights, offsets, ids),
-        _ => crate::sheets::read_told(head, ids),
+        0 => run_told(
+            out, true, head, forbids, weights, offsets, ids, noise, words,
+        ),
+        1 => run_told(
+            out, false, head, forbids, weights, offsets, ids, noise, words,
+        ),
+        2 => propagate_told(out, head, offsets, ids, halves),
+        3 => list_told(out, head, offsets, ids),
+        4 => crate::sheets::write_told(out, head, forbids, weights, offsets, ids),
+        _ => crate::sheets::read_told(out, head, ids),
     }
 }
 
@@ -359,50 +379,78 @@ fn numbers_of(head: &[u32; 17]) -> usize {
     wide(head[6]) + wide(head[7]) + wide(head[8]) + wide(head[9]) + wide(head[10]) + wide(head[11])
 }
 
-fn short() -> bool {
-    print::text(b"the stream of calls is cut off\n");
+fn short<O: Print>(out: &O) -> bool {
+    print::text(out, b"the stream of calls is cut off\n");
     false
 }
 
-fn large() -> bool {
-    print::text(b"a call is larger than this program takes\n");
+fn large<O: Print>(out: &O) -> bool {
+    print::text(out, b"a call is larger than this program takes\n");
     false
 }
 
-fn read_ids(call: u32, head: &[u32; 17], numbers: &[u32], ids: &mut [u8]) -> bool {
-    if !input::bytes(ids) {
-        return short();
+fn read_ids<O: Print, I: Read>(
+    out: &O,
+    source: &mut I,
+    call: u32,
+    head: &[u32; 17],
+    numbers: &[u32],
+    ids: &mut [u8],
+) -> bool {
+    if !input::bytes(source, ids) {
+        return short(out);
     }
-    answer(call, head, numbers, ids);
+    answer(out, call, head, numbers, ids);
     true
 }
 
 // Reads the ids of a call, then makes and tells it.
-fn with_ids(call: u32, head: &[u32; 17], numbers: &[u32], ids: &mut [u8]) -> bool {
-    let Next::Number(n) = input::number() else {
-        return short();
+fn with_ids<O: Print, I: Read>(
+    out: &O,
+    source: &mut I,
+    call: u32,
+    head: &[u32; 17],
+    numbers: &[u32],
+    ids: &mut [u8],
+) -> bool {
+    let Next::Number(n) = input::number(source) else {
+        return short(out);
     };
     let many = wide(n);
     if ids.len() < many {
-        return large();
+        return large(out);
     }
-    read_ids(call, head, numbers, &mut ids[..many])
+    read_ids(out, source, call, head, numbers, &mut ids[..many])
 }
 
-fn read_numbers(call: u32, head: &[u32; 17], numbers: &mut [u32], ids: &mut [u8]) -> bool {
-    if !input::numbers(numbers) {
-        return short();
+fn read_numbers<O: Print, I: Read>(
+    out: &O,
+    source: &mut I,
+    call: u32,
+    head: &[u32; 17],
+    numbers: &mut [u32],
+    ids: &mut [u8],
+) -> bool {
+    if !input::numbers(source, numbers) {
+        return short(out);
     }
-    with_ids(call, head, numbers, ids)
+    with_ids(out, source, call, head, numbers, ids)
 }
 
 // Reads the numbers and the ids of a call, then makes and tells it.
-fn with_numbers(call: u32, head: &[u32; 17], numbers: &mut [u32], ids: &mut [u8]) -> bool {
+fn with_numbers<O: Print, I: Read>(
+    out: &O,
+    source: &mut I,
+    call: u32,
+    head: &[u32; 17],
+    numbers: &mut [u32],
+    ids: &mut [u8],
+) -> bool {
     let many = numbers_of(head);
     if numbers.len() < many {
-        return large();
+        return large(out);
     }
-    read_numbers(call, head, &mut numbers[..many], ids)
+    read_numbers(out, source, call, head, &mut numbers[..many], ids)
 }
 
 // Memory to read a call into.
@@ -419,21 +467,21 @@ fn ids_to_read() -> [u8; 65536]
 }
 
 // Reads the rest of a call, then makes and tells it.
-fn rest(call: u32) -> bool {
+fn rest<O: Print, I: Read>(out: &O, source: &mut I, call: u32) -> bool {
     let mut head = [0u32; 17];
-    if !input::numbers(&mut head) {
-        return short();
+    if !input::numbers(source, &mut head) {
+        return short(out);
     }
     let mut numbers = numbers_to_read();
     let mut ids = ids_to_read();
-    with_numbers(call, &head, &mut numbers, &mut ids)
+    with_numbers(out, source, call, &head, &mut numbers, &mut ids)
 }
 
 // Answers the next call of the stream, and whether there may be another.
-pub(crate) fn next() -> bool {
-    match input::number() {
+pub(crate) fn next<O: Print, I: Read>(out: &O, source: &mut I) -> bool {
+    match input::number(source) {
         Next::End => false,
-        Next::Short => short(),
-        Next::Number(call) => rest(call),
+        Next::Short => short(out),
+        Next::Number(call) => rest(out, source, call),
     }
 }

@@ -64,18 +64,22 @@ fn trace(
 }
 
 // The first `many` choices.
-fn print_all(places: &[u32; 2050], entropies: &[f32; 1025], many: usize) {
-    let mut k = 0;
-    while k < 1025 {
+fn print_all<O: Print>(out: &O, places: &[u32; 2050], entropies: &[f32; 1025], many: usize) {
+    for k in 0..1025 {
         if k < many {
-            print::choice(wide(places[2 * k]), entropies[k], wide(places[2 * k + 1]));
+            print::choice(
+                out,
+                wide(places[2 * k]),
+                entropies[k],
+                wide(places[2 * k + 1]),
+            );
         }
-        k += 1;
     }
 }
 
 // Tells each choice, and answers how many there were.
-pub(crate) fn tell(
+pub(crate) fn tell<O: Print>(
+    out: &O,
     a: Asked,
     forbids: &[u32],
     weights: &[u32],
@@ -103,6 +107,6 @@ pub(crate) fn tell(
         &mut entropies[..most],
         domains,
     );
-    print_all(&places, &entropies, made);
+    print_all(out, &places, &entropies, made);
     made
 }

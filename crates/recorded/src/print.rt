@@ -1,53 +1,46 @@
-// Lines on standard output, as they stand in vectors/.
-use libc::STDOUT_FILENO;
-
-pub(crate) fn text(bytes: &[u8]) {
-    io::write_all(STDOUT_FILENO, bytes);
+// Lines on standard output, as they stand in vectors/. What cannot be written is left out, and shows when the output is held to what was recorded.
+pub(crate) fn text<O: Print>(out: &O, bytes: &[u8]) {
+    let _ = out.write_all(bytes);
 }
 
-pub(crate) fn number(n: u64) {
-    text(b" ");
-    io::print_decimal(STDOUT_FILENO, n);
+pub(crate) fn number<O: Print>(out: &O, n: u64) {
+    let _ = print!(out; " {n}");
 }
 
-pub(crate) fn refused(n: u32) {
-    text(b"refused");
-    number(n as u64);
-    text(b"\n");
+pub(crate) fn refused<O: Print>(out: &O, n: u32) {
+    text(out, b"refused");
+    number(out, n as u64);
+    text(out, b"\n");
 }
 
-pub(crate) fn end(end: u64, used: usize) {
-    text(b"end");
-    number(end);
-    number(used as u64);
-    text(b"\n");
+pub(crate) fn end<O: Print>(out: &O, end: u64, used: usize) {
+    text(out, b"end");
+    number(out, end);
+    number(out, used as u64);
+    text(out, b"\n");
 }
 
 // The first `many` of some domains.
-pub(crate) fn domains(words: &[u64; 1025], many: usize) {
-    text(b"domains");
-    let mut c = 0;
-    while c < 1025 {
+pub(crate) fn domains<O: Print>(out: &O, words: &[u64; 1025], many: usize) {
+    text(out, b"domains");
+    for c in 0..1025 {
         if c < many {
-            number(words[c]);
+            number(out, words[c]);
         }
-        c += 1;
     }
-    text(b"\n");
+    text(out, b"\n");
 }
 
 fn wide(id: u8) -> u64 {
     id as u64
 }
 
-pub(crate) fn part(ids: &[u8]) {
-    text(b"part");
-    let mut i = 0;
-    while i < ids.len() {
-        number(wide(ids[i]));
-        i += 1;
+pub(crate) fn part<O: Print>(out: &O, ids: &[u8]) {
+    text(out, b"part");
+    for id in ids {
+        number(out, wide(*id));
     }
-    text(b"\n");
+    text(out, b"\n");
 }
 
 fn wide_bits(bits: u32) -> u64 {
@@ -55,40 +48,44 @@ fn wide_bits(bits: u32) -> u64 {
 }
 
 // The bits of an entropy, which is no NaN.
-fn bits(entropy: f32) {
-    text(b" ");
+fn bits<O: Print>(out: &O, entropy: f32) {
     if entropy == entropy {
-        io::print_hex(STDOUT_FILENO, wide_bits(f32::to_bits(entropy)), 8);
+        let code = f32::to_bits(entropy);
+        let _ = print!(out; " {code:08x}");
     } else {
-        text(b"NaN");
+        text(out, b" NaN");
     }
 }
 
-pub(crate) fn choice(cell: usize, entropy: f32, pattern: usize) {
-    text(b"choice");
-    number(cell as u64);
-    bits(entropy);
-    number(pattern as u64);
-    text(b"\n");
+pub(crate) fn choice<O: Print>(out: &O, cell: usize, entropy: f32, pattern: usize) {
+    text(out, b"choice");
+    number(out, cell as u64);
+    bits(out, entropy);
+    number(out, pattern as u64);
+    text(out, b"\n");
 }
 
 // ---- sheets
 
+// A byte in two hexadecimal digits.
+fn byte<O: Print>(out: &O, byte: u8) {
+    let _ = print!(out; "{byte:02x}");
+}
+
 // The first `many` bytes, two hexadecimal digits each.
-pub(crate) fn sheet(bytes: &[u8; 131072], many: usize) {
-    text(b"sheet ");
-    let mut i = 0;
-    while i < 131072 {
+pub(crate) fn sheet<O: Print>(out: &O, bytes: &[u8; 131072], many: usize) {
+    text(out, b"sheet ");
+    for i in 0..131072 {
         if i < many {
-            io::print_hex(STDOUT_FILENO, wide(bytes[i]), 2);
+            byte(out, bytes[i]);
         }
-        i += 1;
     }
-    text(b"\n");
+    text(out, b"\n");
 }
 
 // How much a sheet holds.
-pub(crate) fn sizes(
+pub(crate) fn sizes<O: Print>(
+    out: &O,
     count: usize,
     ids: usize,
     width: usize,
@@ -96,38 +93,34 @@ pub(crate) fn sizes(
     mode: usize,
     forbids: usize,
 ) {
-    text(b"sizes");
-    number(count as u64);
-    number(ids as u64);
-    number(width as u64);
-    number(height as u64);
-    number(mode as u64);
-    number(forbids as u64);
-    text(b"\n");
+    text(out, b"sizes");
+    number(out, count as u64);
+    number(out, ids as u64);
+    number(out, width as u64);
+    number(out, height as u64);
+    number(out, mode as u64);
+    number(out, forbids as u64);
+    text(out, b"\n");
 }
 
 // The first `many` of some numbers.
-pub(crate) fn numbers(name: &[u8], numbers: &[u32; 16384], many: usize) {
-    text(name);
-    let mut i = 0;
-    while i < 16384 {
+pub(crate) fn numbers<O: Print>(out: &O, name: &[u8], numbers: &[u32; 16384], many: usize) {
+    text(out, name);
+    for i in 0..16384 {
         if i < many {
-            number(wide_bits(numbers[i]));
+            number(out, wide_bits(numbers[i]));
         }
-        i += 1;
     }
-    text(b"\n");
+    text(out, b"\n");
 }
 
 // The first `many` of some ids.
-pub(crate) fn ids(ids: &[u8; 131072], many: usize) {
-    text(b"ids");
-    let mut i = 0;
-    while i < 131072 {
+pub(crate) fn ids<O: Print>(out: &O, ids: &[u8; 131072], many: usize) {
+    text(out, b"ids");
+    for i in 0..131072 {
         if i < many {
-            number(wide(ids[i]));
+            number(out, wide(ids[i]));
         }
-        i += 1;
     }
-    text(b"\n");
+    text(out, b"\n");
 }

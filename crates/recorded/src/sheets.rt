@@ -41,10 +41,8 @@ fn byte_seven(bytes: &[u8; 131072], i: usize, from: usize, to: usize) -> usize
 // How many sevens are there.
 fn byte_sevens(bytes: &[u8; 131072], from: usize, to: usize) -> usize {
     let mut sevens = 0;
-    let mut i = 0;
-    while i < 131072 {
-        sevens = sevens + byte_seven(bytes, i, from, to);
-        i += 1;
+    for i in 0..131072 {
+        sevens += byte_seven(bytes, i, from, to);
     }
     sevens
 }
@@ -71,10 +69,8 @@ fn number_seven(numbers: &[u32; 16384], i: usize, from: usize, to: usize) -> usi
 // How many sevens are there.
 fn number_sevens(numbers: &[u32; 16384], from: usize, to: usize) -> usize {
     let mut sevens = 0;
-    let mut i = 0;
-    while i < 16384 {
-        sevens = sevens + number_seven(numbers, i, from, to);
-        i += 1;
+    for i in 0..16384 {
+        sevens += number_seven(numbers, i, from, to);
     }
     sevens
 }
@@ -82,7 +78,7 @@ fn number_sevens(numbers: &[u32; 16384], from: usize, to: usize) -> usize {
 // ---- a sheet that is written
 
 // What writing tells: a refusal's number, or 0 with the number of bytes.
-#[derive(Drop)]
+#[derive(Clone, Copy)]
 struct Wrote {
     refused: u32,
     bytes: usize,
@@ -125,29 +121,30 @@ fn write_in(
 }
 
 // Writing, told with the bytes and with how many past them stayed.
-pub(crate) fn write_told(
+pub(crate) fn write_told<O: Print>(
+    out: &O,
     head: &[u32; 17],
     forbids: &[u32],
     weights: &[u32],
     offsets: &[u32],
     ids: &[u8],
 ) {
-    let mut out = bytes_to_lend();
-    let wrote = write_in(head, forbids, weights, offsets, ids, &mut out);
+    let mut room = bytes_to_lend();
+    let wrote = write_in(head, forbids, weights, offsets, ids, &mut room);
     let bytes = wrote.bytes;
-    print::refused(wrote.refused);
+    print::refused(out, wrote.refused);
     if wrote.refused == 0 {
-        print::sheet(&out, bytes);
+        print::sheet(out, &room, bytes);
     }
-    print::text(b"stayed");
-    print::number(byte_sevens(&out, bytes, wide(head[12])) as u64);
-    print::text(b"\n");
+    print::text(out, b"stayed");
+    print::number(out, byte_sevens(&room, bytes, wide(head[12])) as u64);
+    print::text(out, b"\n");
 }
 
 // ---- a sheet that is read
 
 // How much a sheet holds, or why that is not told.
-#[derive(Drop)]
+#[derive(Clone, Copy)]
 struct Held {
     refused: u32,
     measures: Measures,
@@ -177,11 +174,11 @@ fn held_of(answer: SizesAnswer) -> Held {
     }
 }
 
-fn tell_held(held: Held) {
-    print::refused(held.refused);
+fn tell_held<O: Print>(out: &O, held: Held) {
+    print::refused(out, held.refused);
     if held.refused == 0 {
         let m = held.measures;
-        print::sizes(m.count, m.ids, m.width, m.height, m.mode, m.forbids);
+        print::sizes(out, m.count, m.ids, m.width, m.height, m.mode, m.forbids);
     }
 }
 
@@ -208,7 +205,7 @@ fn read_in(
 }
 
 // Where the entries of a sheet end in each slice; nothing stands in them where it is refused.
-#[derive(Drop)]
+#[derive(Clone, Copy)]
 struct Ends {
     weights: usize,
     offsets: usize,
@@ -235,7 +232,8 @@ fn ends_of(held: Held) -> Ends {
 }
 
 // The entries of a sheet that was read, and how many past each slice's last one stayed.
-fn tell_slices(
+fn tell_slices<O: Print>(
+    out: &O,
     head: &[u32; 17],
     held: Held,
     weights: &[u32; 16384],
@@ -245,22 +243,31 @@ fn tell_slices(
 ) {
     let ends = ends_of(held);
     if held.refused == 0 {
-        print::numbers(b"weights", weights, ends.weights);
-        print::numbers(b"offsets", offsets, ends.offsets);
-        print::ids(ids, ends.ids);
-        print::numbers(b"forbids", forbids, ends.forbids);
+        print::numbers(out, b"weights", weights, ends.weights);
+        print::numbers(out, b"offsets", offsets, ends.offsets);
+        print::ids(out, ids, ends.ids);
+        print::numbers(out, b"forbids", forbids, ends.forbids);
     }
-    print::text(b"stayed");
-    print::number(number_sevens(weights, ends.weights, wide(head[12])) as u64);
-    print::number(number_sevens(offsets, ends.offsets, wide(head[13])) as u64);
-    print::number(byte_sevens(ids, ends.ids, wide(head[14])) as u64);
-    print::number(number_sevens(forbids, ends.forbids, wide(head[15])) as u64);
-    print::text(b"\n");
+    print::text(out, b"stayed");
+    print::number(
+        out,
+        number_sevens(weights, ends.weights, wide(head[12])) as u64,
+    );
+    print::number(
+        out,
+        number_sevens(offsets, ends.offsets, wide(head[13])) as u64,
+    );
+    print::number(out, byte_sevens(ids, ends.ids, wide(head[14])) as u64);
+    print::number(
+        out,
+        number_sevens(forbids, ends.forbids, wide(head[15])) as u64,
+    );
+    print::text(out, b"\n");
 }
 
 // Reading, told with what `sizes` tells of the same bytes, the entries and how many past them stayed.
-pub(crate) fn read_told(head: &[u32; 17], bytes: &[u8]) {
-    tell_held(held_of(sheet::sizes(bytes)));
+pub(crate) fn read_told<O: Print>(out: &O, head: &[u32; 17], bytes: &[u8]) {
+    tell_held(out, held_of(sheet::sizes(bytes)));
     let mut weights = numbers_to_lend();
     let mut offsets = numbers_to_lend();
     let mut ids = bytes_to_lend();
@@ -273,6 +280,6 @@ pub(crate) fn read_told(head: &[u32; 17], bytes: &[u8]) {
         &mut ids,
         &mut forbids,
     );
-    tell_held(held);
-    tell_slices(head, held, &weights, &offsets, &ids, &forbids);
+    tell_held(out, held);
+    tell_slices(out, head, held, &weights, &offsets, &ids, &forbids);
 }

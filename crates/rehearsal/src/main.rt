@@ -1,142 +1,153 @@
-// rehearsal: carries out commands of `ocean` one after the other, by the same functions, and shows each with all that it says and writes.
-// For the gate, which runs a program once and holds what it writes to a file. Its arguments are the words of all commands, `then` between two:
-//
-//     W ..           the words of a command of `ocean`
-//     bytes FILE     the bytes of a file, in hexadecimal
-//     text FILE      a file as it stands, up to 65,536 bytes
+//! rehearsal: carries out commands of `ocean` one after the other, by the same functions, and shows each with all that it says and writes.
+//! For the gate, which runs a program once and holds what it writes to a file. Its arguments are the words of all commands, `then` between two:
+//!
+//!     W ..           the words of a command of `ocean`
+//!     bytes FILE     the bytes of a file, in hexadecimal
+//!     text FILE      a file as it stands, up to 65,536 bytes
+#![tactic(auto)]
+
 ghost use Rattle.std.specs.Prelude.{◌≤◌, ◌<◌};
 
-use libc::STDOUT_FILENO;
+use std::rt::{Env, Files};
+use std::{fs, str};
 
 // Whether an argument is this word.
-fn is_word(index: usize, word: &[u8]) -> bool {
-    let mut text = io::buffer();
-    let n = os::arg(index, &mut text);
+fn is_word<R: Env>(rt: &R, index: usize, word: &[u8]) -> bool {
+    let mut text = transfer::buffer();
+    let n = transfer::argument(rt, index, &mut text);
     command::arguments::same(&text[..n], word)
 }
 
-fn is_then(index: usize) -> bool {
-    is_word(index, b"then")
+fn is_then<R: Env>(rt: &R, index: usize) -> bool {
+    is_word(rt, index, b"then")
 }
 
 // Where the command that starts here ends: at the next `then`, or at the last argument.
-fn end_of(from: usize, count: usize) -> usize
+fn end_of<R: Env>(rt: &R, from: usize, count: usize) -> usize
     requires { from < count }
     ensures { (from ≤ result) × (result ≤ count) }
 {
-    let mut i = from;
-    while i < count {
-        if is_then(i) {
+    for i in from..count {
+        if is_then(rt, i) {
             return i;
         }
-        i += 1;
     }
-    i
+    count
 }
 
-fn end_line() {
-    io::write_all(STDOUT_FILENO, b"\n");
+// Writes bytes on standard output. What cannot be written is left out, and shows when the output is held to the file.
+fn say_all<R: Print>(rt: &R, bytes: &[u8]) {
+    let _ = rt.write_all(bytes);
+}
+
+fn end_line<R: Print>(rt: &R) {
+    say_all(rt, b"\n");
 }
 
 // A word of a command, as it was typed.
-fn say_word(index: usize) {
-    let mut text = io::buffer();
-    let n = os::arg(index, &mut text);
-    io::write_all(STDOUT_FILENO, b" ");
+fn say_word<R: Env + Print>(rt: &R, index: usize) {
+    let mut text = transfer::buffer();
+    let n = transfer::argument(rt, index, &mut text);
+    say_all(rt, b" ");
     if n == 0 {
-        io::write_all(STDOUT_FILENO, b"''");
+        say_all(rt, b"''");
     }
-    io::write_all(STDOUT_FILENO, &text[..n]);
+    say_all(rt, &text[..n]);
 }
 
 // The command, as a person types it.
-fn say(from: usize, end: usize) {
-    let mut i = from;
-    while i < end {
-        say_word(i);
-        i += 1;
+fn say<R: Env + Print>(rt: &R, from: usize, end: usize) {
+    for i in from..end {
+        say_word(rt, i);
     }
-    end_line();
+    end_line(rt);
 }
 
-// Opens a file to be shown, or says that it is not there and answers a negative number.
-fn opened(index: usize) -> i32 {
-    let mut path = io::buffer();
-    let n = os::arg(index, &mut path);
-    let fd = os::open_read(&path[..n]);
-    if fd < 0 {
-        io::write_all(STDOUT_FILENO, b"(there is no such file)\n");
+// The file that an argument names, opened to be read, or none.
+fn named<R: Env + Files>(rt: &R, index: usize) -> Option<R::File> {
+    let mut path = transfer::buffer();
+    let n = transfer::argument(rt, index, &mut path);
+    match str::from_utf8(&path[..n]) {
+        Ok(text) => fs::open(rt, text).ok(),
+        Err(_) => None,
     }
-    fd
 }
 
-fn wide(x: u8) -> u64 {
-    x as u64
+// Opens a file to be shown, or says that it is not there and answers none.
+fn opened<R: Env + Files + Print>(rt: &R, index: usize) -> Option<R::File> {
+    let file = named(rt, index);
+    if file.is_none() {
+        say_all(rt, b"(there is no such file)\n");
+    }
+    file
+}
+
+// A byte in two hexadecimal digits.
+fn say_byte<R: Print>(rt: &R, byte: u8) {
+    let _ = print!(rt; "{byte:02x}");
 }
 
 // Bytes in hexadecimal.
-fn say_bytes(bytes: &[u8]) {
-    let mut i = 0;
-    while i < bytes.len() {
-        io::print_hex(STDOUT_FILENO, wide(bytes[i]), 2);
-        i += 1;
+fn say_bytes<R: Print>(rt: &R, bytes: &[u8]) {
+    for byte in bytes {
+        say_byte(rt, *byte);
     }
-    end_line();
+    end_line(rt);
 }
 
-fn show_bytes(index: usize) {
-    let fd = opened(index);
-    if fd < 0 {
+fn show_bytes<R: Env + Files + Print>(rt: &R, index: usize) {
+    let Some(mut file) = opened(rt, index) else {
         return;
-    }
-    let mut bytes = io::buffer();
-    let n = io::read_full(fd, &mut bytes);
-    libc::close(fd);
-    say_bytes(&bytes[..n]);
+    };
+    let mut bytes = transfer::buffer();
+    let n = transfer::read_full(&mut file, &mut bytes);
+    say_bytes(rt, &bytes[..n]);
 }
 
-fn show_text(index: usize) {
-    let fd = opened(index);
-    if fd < 0 {
+fn show_text<R: Env + Files + Print>(rt: &R, index: usize) {
+    let Some(mut file) = opened(rt, index) else {
         return;
-    }
-    let mut bytes = io::large_buffer();
-    let n = io::read_full(fd, &mut bytes);
-    libc::close(fd);
-    io::write_all(STDOUT_FILENO, &bytes[..n]);
+    };
+    let mut bytes = transfer::large_buffer();
+    let n = transfer::read_full(&mut file, &mut bytes);
+    say_all(rt, &bytes[..n]);
 }
 
 // One command, from one argument up to another.
-fn rehearse(from: usize, end: usize)
+fn rehearse<R: Env + Files + Print>(rt: &R, from: usize, end: usize)
     requires { from ≤ end }
 {
     if from == end {
         return;
     }
-    if is_word(from, b"bytes") {
-        io::write_all(STDOUT_FILENO, b"$");
-        say(from, end);
-        show_bytes(from + 1);
+    if is_word(rt, from, b"bytes") {
+        say_all(rt, b"$");
+        say(rt, from, end);
+        show_bytes(rt, from + 1);
         return;
     }
-    if is_word(from, b"text") {
-        io::write_all(STDOUT_FILENO, b"$");
-        say(from, end);
-        show_text(from + 1);
+    if is_word(rt, from, b"text") {
+        say_all(rt, b"$");
+        say(rt, from, end);
+        show_text(rt, from + 1);
         return;
     }
-    io::write_all(STDOUT_FILENO, b"$ ocean");
-    say(from, end);
-    let plan = voyage::inner::arguments(from, end);
-    voyage::inner::carry_out(plan, STDOUT_FILENO);
+    say_all(rt, b"$ ocean");
+    say(rt, from, end);
+    let plan = voyage::inner::arguments(rt, from, end);
+    voyage::inner::carry_out(rt, plan, rt);
 }
 
-fn main() {
-    let count = os::arg_count();
+// All commands, from the first argument on. Each takes an argument or more, so there are no more turns than arguments.
+fn main(rt: HostRuntime) {
+    let count = transfer::argument_count(&rt);
     let mut from = 1;
-    while from < count {
-        let end = end_of(from, count);
-        rehearse(from, end);
+    for _ in 1..count {
+        if from >= count {
+            return;
+        }
+        let end = end_of(&rt, from, count);
+        rehearse(&rt, from, end);
         if end == count {
             return;
         }

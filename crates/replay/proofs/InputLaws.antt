@@ -1,12 +1,8 @@
 -- Laws of a sheet that is read from the stream: the state that some bytes and then others lead to, and what is held of them all.
 -- Assumes nothing.
-use mathlib.Core.Bool.{Bool}
-use mathlib.Core.List.{List, [], ◌++◌}
-use mathlib.Core.Path.{◌≡◌, refl, sym, ap, ◌∙◌, subst}
-use Prim.Native.Nat.{ℕ, ◌+◌, ◌-◌, ◌<◌, min}
-use native.Mathlib.Omega.{arith}
-use lib.ListN.{length, get_or, take, length-append, length-take}
-use lib.Seq.{take-append_seam}
+use Rattle.std.proofs.Common.{Bool, true, false, List, [], ◌++◌, ◌≡◌, ℕ, ◌+◌, ◌-◌, ◌<◌, ◌≤◌, min, length, get_or, take, refl, sym, ap, ◌∙◌, subst, arith}
+use Rattle.std.proofs.lemmas.List.{take_all, length-append, length-take}
+use Rattle.std.proofs.Math.Seq.{take-append_seam}
 use Rattle.scan.specs.declared.inner.Scan.{Scan}
 use Rattle.scan.specs.Scanning.{start, past, formed, Scanned}
 use Rattle.bounded.specs.Laid.{Front}

@@ -1,19 +1,15 @@
 -- Laws of what is kept of a sheet: the front that is in memory and what the scan came to are what a program holds of all bytes that were read.
 -- Assumes nothing.
-use mathlib.Core.Bool.{Bool}
-use mathlib.Core.List.{List, ◌++◌}
-use mathlib.Core.Path.{◌≡◌, sym, ap, subst, ◌∙◌}
-use Prim.Native.Nat.{ℕ, ◌≤◌, ◌<◌}
-use native.Mathlib.Omega.{arith}
-use lib.ListN.{length, get_or, take, length-take}
-use lib.Seq.{take_all, take_at}
+use Rattle.std.proofs.Common.{Bool, List, ◌++◌, ◌≡◌, ℕ, ◌≤◌, ◌<◌, length, get_or, take, sym, ap, subst, ◌∙◌, arith}
+use Rattle.std.proofs.lemmas.List.{take_all, length-take}
+use Rattle.std.proofs.Math.Seq.{take-append_seam}
 use Rattle.scan.specs.declared.inner.Scan.{Scan}
 use Rattle.scan.specs.Scanning.{start, past, formed, Reached, Scanned}
 use Rattle.bounded.specs.Laid.{Front}
 use Rattle.voyage.specs.declared.inner.sheets.Kept.{Kept}
+use Rattle.voyage.specs.declared.inner.sheets.Kept.TheVariants as kept
 use Rattle.voyage.specs.Kept.{Holds}
 use Rattle.scan.proofs.ScanLaws.{scanned_more, scanned-formed}
-use Rattle.voyage.specs.declared.inner.sheets.Kept.TheVariants as kept
 
 -- a scan from the start, as the code makes it
 pub seen : {b : List ℕ} {s r : Scan} → s ≡ start → (r ≡ past s b) × ((k : ℕ) → get_or b k 0 < 256) → Scanned b r
@@ -27,7 +23,8 @@ front-whole {b} S h e = (b, record { bytes = S.bytes; front = sym (take_all 9027
 pub front-longer : {b : List ℕ} {s t : Scan} → Scanned b s → 90273 ≡ length b → Reached s t → {r : Bool} → r ≡ formed t → Front b r
 front-longer {b} S h R e =
     let all = scanned_more S R.between R.bytes R.state in
-    (b ++ R.between, record { bytes = all.bytes; front = sym (take_at b R.between 90273 (sym h)); formed = e ∙ scanned-formed all })
+    let kept : take 90273 (b ++ R.between) ≡ b = subst (λ (n : ℕ). take n (b ++ R.between) ≡ b) (sym h) (take-append_seam b R.between) in
+    (b ++ R.between, record { bytes = all.bytes; front = sym kept; formed = e ∙ scanned-formed all })
 
 -- ---- memory
 

@@ -1,1 +1,1 @@
-pub mod KeptLaws
+mod KeptLaws

@@ -7,4 +7,4 @@ use Rattle.voyage.specs.declared.inner.sheets.Kept.TheVariants as kept
 -- memory begins with what a program holds of a sheet, where one could be read
 unfoldable pub Holds : Kept → List ℕ → Type 0
 Holds (kept.Sheet n formed) memory = Front (take n memory) formed
-Holds kept.Failed memory = Unit
+Holds (kept.Failed fault) memory = Unit

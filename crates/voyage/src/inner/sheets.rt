@@ -5,20 +5,24 @@ ghost use Rattle.bounded.specs.Laid.{Front};
 ghost use Rattle.voyage.specs.Kept.{Holds};
 
 use crate::inner::files;
+use crate::inner::files::Got;
 use crate::inner::parts::bytes_of;
+use command::sentences::UNUSABLE;
 use scan::inner::{Scan, bad, formed, past, start};
+use std::io::Read;
+use std::rt::{Env, Files};
 
-// How many bytes are kept, and whether all of them are a sheet; or the file could not be read, and the person was told.
-#[derive(Drop)]
+// How many bytes are kept, and whether all of them are a sheet; or the file could not be read, for the fault of this number.
+#[derive(Clone, Copy)]
 pub(crate) enum Kept {
     Sheet(usize, bool),
-    Failed,
+    Failed(usize),
 }
 
 // What a read answered, and where its bytes lead.
-#[derive(Drop)]
+#[derive(Clone, Copy)]
 struct Progress {
-    got: isize,
+    got: Got,
     state: Scan,
 }
 
@@ -30,12 +34,12 @@ pub(crate) fn whole(sheet: &[u8]) -> bool
 }
 
 // Some bytes more of a file.
-fn piece(fd: i32, state: Scan) -> Progress
+fn piece<F: Read>(file: &mut F, state: Scan) -> Progress
     ensures { Reached state result.state }
 {
-    let mut bytes = io::buffer();
-    let got = libc::read(fd, &mut bytes);
-    let n = io::count(got, &bytes);
+    let mut bytes = transfer::buffer();
+    let got = files::read_once(file, &mut bytes);
+    let n = got.bytes;
     Progress {
         got,
         state: past(state, &bytes[..n]),
@@ -43,71 +47,84 @@ fn piece(fd: i32, state: Scan) -> Progress
 }
 
 // The rest of a file, up to its end, a read that fails, or a piece after which they are known to be no sheet.
-// A proved loop has to end, and nothing says that a file does: the turns are counted down from a number that no file uses up.
-fn rest(fd: i32, state: Scan) -> Progress
+// A proved loop has to end, and nothing says that a file does: the turns are as many as no file uses up.
+fn rest<F: Read>(file: &mut F, state: Scan) -> Progress
     ensures { Reached state result.state }
 {
-    let mut last = piece(fd, state);
-    let mut turns = u64::MAX;
-    while turns > 0 {
+    let mut last = piece(file, state);
+    for _ in 0..u64::MAX {
         let reached = last.state;
-        if last.got <= 0 || bad(reached) {
+        if last.got.bytes == 0 || bad(reached) {
             return last;
         }
-        last = piece(fd, reached);
-        turns -= 1;
+        last = piece(file, reached);
     }
     last
 }
 
 // A file that fills the memory: what is over is read past and judged too.
-fn longer(fd: i32, front: &[u8]) -> Kept
+fn longer<F: Read>(file: &mut F, front: &[u8]) -> Kept
     requires { 90273 ≡ length front.now }
     ensures { Holds result front.now }
 {
-    let last = rest(fd, past(start(), front));
-    if last.got < 0 {
-        return Kept::Failed;
+    let last = rest(file, past(start(), front));
+    if last.got.fault != 0 {
+        return Kept::Failed(last.got.fault);
     }
     let reached = last.state;
     Kept::Sheet(front.len(), formed(reached))
 }
 
-// Whether a file that gave no more bytes came to its end: a read that failed gave none either, and fails again.
-fn ended(fd: i32) -> bool {
+// What is wrong where a file gave no more bytes: nothing, which is 0, where it came to its end. A read that failed gave none either, and fails again.
+fn fault_at_end<F: Read>(file: &mut F) -> usize {
     let mut one = [0u8; 1];
-    libc::read(fd, &mut one) == 0
+    let got = files::read_once(file, &mut one);
+    if got.bytes != 0 {
+        return UNUSABLE;
+    }
+    got.fault
 }
 
 // An open file, read to its end.
-fn read(fd: i32, bytes: &mut [u8]) -> Kept
+fn read<F: Read>(file: &mut F, bytes: &mut [u8]) -> Kept
     requires { 90273 ≡ length bytes.old }
     ensures { Holds result bytes.new }
 {
-    let n = io::read_full(fd, bytes);
+    let n = transfer::read_full(file, bytes);
     if n == bytes.len() {
-        return longer(fd, bytes);
+        return longer(file, bytes);
     }
-    if !ended(fd) {
-        return Kept::Failed;
+    let fault = fault_at_end(file);
+    if fault != 0 {
+        return Kept::Failed(fault);
     }
     Kept::Sheet(n, whole(bytes_of(bytes, n)))
 }
 
-// The file that an argument names.
-pub(crate) fn load(index: usize, told: i32, bytes: &mut [u8]) -> Kept
+// The file of this name.
+fn read_named<R: Env + Files>(rt: &R, index: usize, bytes: &mut [u8]) -> Kept
     requires { 90273 ≡ length bytes.old }
     ensures { Holds result bytes.new }
 {
-    let fd = files::open_read(index);
-    if fd < 0 {
-        files::failed(index, told);
-        return Kept::Failed;
+    match files::open_read(rt, index) {
+        Ok(mut file) => read(&mut file, bytes),
+        Err(fault) => Kept::Failed(fault),
     }
-    let kept = read(fd, bytes);
-    if let Kept::Failed = kept {
-        files::failed(index, told);
+}
+
+// The file that an argument names.
+pub(crate) fn load<R: Env + Files, T: Print>(
+    rt: &R,
+    index: usize,
+    told: &T,
+    bytes: &mut [u8],
+) -> Kept
+    requires { 90273 ≡ length bytes.old }
+    ensures { Holds result bytes.new }
+{
+    let kept = read_named(rt, index, bytes);
+    if let Kept::Failed(fault) = kept {
+        files::tell(rt, index, told, fault);
     }
-    libc::close(fd);
     kept
 }

@@ -6,33 +6,42 @@ use crate::inner::parts::domains_of;
 use bounded::inner::{Ground, Laid, memory};
 use command::files::Names;
 use command::sentences::{TOO_LARGE, UNWRITTEN};
-use libc::STDOUT_FILENO;
+use std::io::Write;
+use std::rt::{Env, Files};
 
 // Why a sheet was refused, and where it is wrong.
-pub(crate) fn refused(told: i32, sheet: &[u8], number: u32) {
-    let mut page = io::buffer();
+pub(crate) fn refused<T: Print>(told: &T, sheet: &[u8], number: u32) {
+    let mut page = transfer::buffer();
     let place = faults::inner::place_in(sheet, number);
     let n = command::sentences::put_refusal(number as usize, place, 0, &mut page);
-    files::write(told, &page, n);
+    files::print(told, &page, n);
 }
 
 // What is wrong with what is asked.
-pub(crate) fn fault(told: i32, number: usize) {
-    let mut page = io::buffer();
+pub(crate) fn fault<T: Print>(told: &T, number: usize) {
+    let mut page = transfer::buffer();
     let n = command::sentences::put_fault(number, 0, &mut page);
-    files::write(told, &page, n);
+    files::print(told, &page, n);
 }
 
 // What is wrong with the file of this name.
-pub(crate) fn file_fault(told: i32, name: &[u8], number: usize) {
-    let mut page = io::large_buffer();
+pub(crate) fn file_fault<T: Print>(told: &T, name: &[u8], number: usize) {
+    let mut page = transfer::large_buffer();
     let n = command::sentences::put_file_fault(name, number, 0, &mut page);
-    files::write(told, &page, n);
+    files::print(told, &page, n);
 }
 
 // The chart, on standard output.
-fn chart(told: i32, named: bool, ground: Ground, end: usize, words: usize, domains: &[u64]) {
-    let mut page = io::large_buffer();
+fn chart<R: Print, T: Print>(
+    rt: &R,
+    told: &T,
+    named: bool,
+    ground: Ground,
+    end: usize,
+    words: usize,
+    domains: &[u64],
+) {
+    let mut page = transfer::large_buffer();
     let n = chart::put_chart(
         ground.width,
         ground.mode,
@@ -43,14 +52,14 @@ fn chart(told: i32, named: bool, ground: Ground, end: usize, words: usize, domai
         0,
         &mut page,
     );
-    if !files::write(STDOUT_FILENO, &page, n) {
+    if !files::print(rt, &page, n) {
         file_fault(told, b"standard output", UNWRITTEN);
     }
 }
 
 // The parts of the picture, from the top down. Each answers whether it was written.
-fn picture_head(fd: i32, ground: Ground, end: usize, words: usize) -> bool {
-    let mut page = io::large_buffer();
+fn picture_head<W: Write>(file: &mut W, ground: Ground, end: usize, words: usize) -> bool {
+    let mut page = transfer::large_buffer();
     let n = picture::put_picture_head(
         ground.width,
         ground.height,
@@ -60,30 +69,33 @@ fn picture_head(fd: i32, ground: Ground, end: usize, words: usize) -> bool {
         0,
         &mut page,
     );
-    files::write(fd, &page, n)
+    files::write(file, &page, n)
 }
 
-fn picture_row(fd: i32, width: usize, named: bool, domains: &[u64], y: usize) -> bool {
-    let mut page = io::large_buffer();
+fn picture_row<W: Write>(
+    file: &mut W,
+    width: usize,
+    named: bool,
+    domains: &[u64],
+    y: usize,
+) -> bool {
+    let mut page = transfer::large_buffer();
     let n = picture::put_picture_row(width, named, domains, y, 0, &mut page);
-    files::write(fd, &page, n)
+    files::write(file, &page, n)
 }
 
-fn picture_rows(fd: i32, ground: Ground, named: bool, domains: &[u64]) -> bool {
+fn picture_rows<W: Write>(file: &mut W, ground: Ground, named: bool, domains: &[u64]) -> bool {
     let width = ground.width;
-    let height = ground.height;
-    let mut y = 0;
-    while y < height {
-        if !picture_row(fd, width, named, domains, y) {
+    for y in 0..ground.height {
+        if !picture_row(file, width, named, domains, y) {
             return false;
         }
-        y += 1;
     }
     true
 }
 
-fn picture_tail(fd: i32, ground: Ground, named: bool, domains: &[u64]) -> bool {
-    let mut page = io::large_buffer();
+fn picture_tail<W: Write>(file: &mut W, ground: Ground, named: bool, domains: &[u64]) -> bool {
+    let mut page = transfer::large_buffer();
     let n = picture::put_picture_tail(
         ground.width,
         ground.height,
@@ -93,58 +105,64 @@ fn picture_tail(fd: i32, ground: Ground, named: bool, domains: &[u64]) -> bool {
         0,
         &mut page,
     );
-    files::write(fd, &page, n)
+    files::write(file, &page, n)
 }
 
-fn picture_parts(
-    fd: i32,
+fn picture_parts<W: Write>(
+    file: &mut W,
     named: bool,
     ground: Ground,
     end: usize,
     words: usize,
     domains: &[u64],
 ) -> bool {
-    if !picture_head(fd, ground, end, words) {
+    if !picture_head(file, ground, end, words) {
         return false;
     }
-    if !picture_rows(fd, ground, named, domains) {
+    if !picture_rows(file, ground, named, domains) {
         return false;
     }
-    picture_tail(fd, ground, named, domains)
+    picture_tail(file, ground, named, domains)
 }
 
 // The picture, in the file that an argument names; whether it was written to its end.
-fn picture(
+fn picture<R: Env + Files, T: Print>(
+    rt: &R,
     index: usize,
-    told: i32,
+    told: &T,
     named: bool,
     ground: Ground,
     end: usize,
     words: usize,
     domains: &[u64],
 ) -> bool {
-    let fd = files::start(index, told);
-    if fd < 0 {
+    let Some(mut file) = files::start(rt, index, told) else {
         return false;
-    }
-    let written = picture_parts(fd, named, ground, end, words, domains);
-    files::finish(index, told, fd, written)
+    };
+    let written = picture_parts(&mut file, named, ground, end, words, domains);
+    files::finish(rt, index, told, file, written)
 }
 
 // The result, in the file that an argument names; whether it was written to its end.
-fn result(index: usize, told: i32, bytes: &[u8], n: usize) -> bool {
-    let fd = files::start(index, told);
-    if fd < 0 {
+fn result<R: Env + Files, T: Print>(
+    rt: &R,
+    index: usize,
+    told: &T,
+    bytes: &[u8],
+    n: usize,
+) -> bool {
+    let Some(mut file) = files::start(rt, index, told) else {
         return false;
-    }
-    let written = files::write(fd, bytes, n);
-    files::finish(index, told, fd, written)
+    };
+    let written = files::write(&mut file, bytes, n);
+    files::finish(rt, index, told, file, written)
 }
 
 // What a run left: the result and the picture where they are asked for, and the chart. What cannot be written is told, and what comes after it is left out.
-fn laid(
+fn laid<R: Env + Files + Print, T: Print>(
+    rt: &R,
     names: Names,
-    told: i32,
+    told: &T,
     ground: Ground,
     end: usize,
     words: usize,
@@ -154,22 +172,23 @@ fn laid(
 ) {
     let named = names.sheet == 0;
     if names.result != 0 {
-        if !result(names.result, told, bytes, length) {
+        if !result(rt, names.result, told, bytes, length) {
             return;
         }
     }
     if names.picture != 0 {
-        if !picture(names.picture, told, named, ground, end, words, domains) {
+        if !picture(rt, names.picture, told, named, ground, end, words, domains) {
             return;
         }
     }
-    chart(told, named, ground, end, words, domains);
+    chart(rt, told, named, ground, end, words, domains);
 }
 
 // Lays the ocean and shows it, or says why not.
-pub(crate) fn run(
+pub(crate) fn run<R: Env + Files + Print, T: Print>(
+    rt: &R,
     names: Names,
-    told: i32,
+    told: &T,
     sheet: &[u8],
     formed: bool,
     ground: Ground,
@@ -185,6 +204,7 @@ pub(crate) fn run(
         Laid::Refused(number) => refused(told, sheet, number),
         Laid::TooLarge => fault(told, TOO_LARGE),
         Laid::Ended(end, used, length) => laid(
+            rt,
             names,
             told,
             ground,

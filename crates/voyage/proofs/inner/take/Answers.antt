@@ -1,0 +1,7 @@
+use Rattle.command.specs.Arguments.{Taken}
+use Rattle.voyage.proofs.inner.take.Goals as goal
+
+-- the text is what the system left
+pub returns : goal.returns
+unfolding Taken
+returns g c = (_, c.step.ensures)
