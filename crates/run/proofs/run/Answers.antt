@@ -22,7 +22,7 @@ pub loop-i-init : goal.loop-i-init
 loop-i-init c =
     let s = (goal.at.loop-i-init c).Start in
     let a = c.args in
-    let b = c.begin_code in
+    let b = c.begin-code in
     at_first (input s) a.forbids.now (entry s) b.result _
     (room_same (entry s) (b.auto.domains, (b.auto.counts, (b.auto.pending, (b.auto.floats, (b.auto.marks, tt {0}))))))
     (b.ensures ∙ ap (λ (n : ℕ). beginning n (length a.forbids.now) (input s) (entry s)) (c.check_all-bad.ensures a.offsets.now a.ids.now a.mode))

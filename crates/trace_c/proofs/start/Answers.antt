@@ -8,4 +8,4 @@ use Rattle.trace_c.proofs.start.Goals as goal
 pub lay_all-requires : goal.lay_all-requires
 lay_all-requires c =
     let m = memory c.args.domains.now c.args.counts.now c.args.pending.now c.args.floats.now c.args.marks.now in
-    begun_going _ m _ _ c.begin_code.ensures (room_same m (c.begin_code.auto.domains, (c.begin_code.auto.counts, (c.begin_code.auto.pending, (c.begin_code.auto.floats, (c.begin_code.auto.marks, tt {0}))))))
+    begun_going _ m _ _ c.begin-code.ensures (room_same m (c.begin-code.auto.domains, (c.begin-code.auto.counts, (c.begin-code.auto.pending, (c.begin-code.auto.floats, (c.begin-code.auto.marks, tt {0}))))))

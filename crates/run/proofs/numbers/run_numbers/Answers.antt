@@ -27,20 +27,20 @@ entry s = memory s.args.domains.now s.args.counts.now s.args.pending.now s.args.
 
 -- the lent slices then
 abbrev begun : After-begin-code → Memory
-begun b = let l = b.begin_code.new in memory l.domains l.counts l.pending l.floats l.marks
+begun b = let l = b.begin-code.new in memory l.domains l.counts l.pending l.floats l.marks
 
-begun-stage : (b : After-begin-code) → stage_of b.args.count b.begin_code.result (begun b)
+begun-stage : (b : After-begin-code) → stage_of b.args.count b.begin-code.result (begun b)
     ≡ beginning (first_of (forbid_tests (input (goal.at.After-begin-code b).Start).table (input (goal.at.After-begin-code b).Start).grid (forbids_of (numbers (goal.at.After-begin-code b).Start)))) (records_in (numbers (goal.at.After-begin-code b).Start)) (input (goal.at.After-begin-code b).Start) (entry (goal.at.After-begin-code b).Start)
 begun-stage b =
     let judged = b.judge_all-bad.ensures b.args.offsets.now b.args.ids.now b.args.mode in
     let counted = b.records_in-lent.ensures in
-    b.begin_code.ensures ∙ (λ j. beginning (judged j) (counted j) (input (goal.at.After-begin-code b).Start) (entry (goal.at.After-begin-code b).Start))
+    b.begin-code.ensures ∙ (λ j. beginning (judged j) (counted j) (input (goal.at.After-begin-code b).Start) (entry (goal.at.After-begin-code b).Start))
 
 begun-room : (b : After-begin-code) → room_of (begun b) ≡ room_of (entry (goal.at.After-begin-code b).Start)
-begun-room b = room_same (entry (goal.at.After-begin-code b).Start) (b.begin_code.auto.domains, (b.begin_code.auto.counts, (b.begin_code.auto.pending, (b.begin_code.auto.floats, (b.begin_code.auto.marks, tt {0})))))
+begun-room b = room_same (entry (goal.at.After-begin-code b).Start) (b.begin-code.auto.domains, (b.begin-code.auto.counts, (b.begin-code.auto.pending, (b.begin-code.auto.floats, (b.begin-code.auto.marks, tt {0})))))
 
-begun-ready : (b : After-begin-code) → Concluded (input (goal.at.After-begin-code b).Start) b.begin_code.result (begun b)
-begun-ready b = begun_concluded (input (goal.at.After-begin-code b).Start) (records_in (numbers (goal.at.After-begin-code b).Start)) (forbids_of (numbers (goal.at.After-begin-code b).Start)) (entry (goal.at.After-begin-code b).Start) b.begin_code.result (begun b) (begun-stage b) (begun-room b)
+begun-ready : (b : After-begin-code) → Concluded (input (goal.at.After-begin-code b).Start) b.begin-code.result (begun b)
+begun-ready b = begun_concluded (input (goal.at.After-begin-code b).Start) (records_in (numbers (goal.at.After-begin-code b).Start)) (forbids_of (numbers (goal.at.After-begin-code b).Start)) (entry (goal.at.After-begin-code b).Start) b.begin-code.result (begun b) (begun-stage b) (begun-room b)
 
 abbrev laid : After-lay_numbers-laid → Memory
 laid l = let k = l.lay_numbers-laid.new in memory k.domains k.counts k.pending k.floats k.marks
@@ -56,12 +56,12 @@ ended-room e = room_same (laid (goal.at.After-conclude e).After-lay_numbers-laid
 
 pub lay_numbers-laid-requires : goal.lay_numbers-laid-requires
 lay_numbers-laid-requires c =
-    (begun-ready (goal.at.lay_numbers-laid-requires c).After-begin-code, begun-placed (input (goal.at.lay_numbers-laid-requires c).Start) (records_in (numbers (goal.at.lay_numbers-laid-requires c).Start)) (forbids_of (numbers (goal.at.lay_numbers-laid-requires c).Start)) (entry (goal.at.lay_numbers-laid-requires c).Start) c.begin_code.result (begun (goal.at.lay_numbers-laid-requires c).After-begin-code) (begun-stage (goal.at.lay_numbers-laid-requires c).After-begin-code))
+    (begun-ready (goal.at.lay_numbers-laid-requires c).After-begin-code, begun-placed (input (goal.at.lay_numbers-laid-requires c).Start) (records_in (numbers (goal.at.lay_numbers-laid-requires c).Start)) (forbids_of (numbers (goal.at.lay_numbers-laid-requires c).Start)) (entry (goal.at.lay_numbers-laid-requires c).Start) c.begin-code.result (begun (goal.at.lay_numbers-laid-requires c).After-begin-code) (begun-stage (goal.at.lay_numbers-laid-requires c).After-begin-code))
 
 pub conclude-requires : goal.conclude-requires
 conclude-requires c =
-    lay_all_concluded (input (goal.at.conclude-requires c).Start) (forbids_of (numbers (goal.at.conclude-requires c).Start)) c.begin_code.result (begun (goal.at.conclude-requires c).After-begin-code) (begun-ready (goal.at.conclude-requires c).After-begin-code)
-    (begun-placed (input (goal.at.conclude-requires c).Start) (records_in (numbers (goal.at.conclude-requires c).Start)) (forbids_of (numbers (goal.at.conclude-requires c).Start)) (entry (goal.at.conclude-requires c).Start) c.begin_code.result (begun (goal.at.conclude-requires c).After-begin-code) (begun-stage (goal.at.conclude-requires c).After-begin-code)) c.lay_numbers-laid.result (laid (goal.at.conclude-requires c).After-lay_numbers-laid) c.lay_numbers-laid.ensures (laid-room (goal.at.conclude-requires c).After-lay_numbers-laid)
+    lay_all_concluded (input (goal.at.conclude-requires c).Start) (forbids_of (numbers (goal.at.conclude-requires c).Start)) c.begin-code.result (begun (goal.at.conclude-requires c).After-begin-code) (begun-ready (goal.at.conclude-requires c).After-begin-code)
+    (begun-placed (input (goal.at.conclude-requires c).Start) (records_in (numbers (goal.at.conclude-requires c).Start)) (forbids_of (numbers (goal.at.conclude-requires c).Start)) (entry (goal.at.conclude-requires c).Start) c.begin-code.result (begun (goal.at.conclude-requires c).After-begin-code) (begun-stage (goal.at.conclude-requires c).After-begin-code)) c.lay_numbers-laid.result (laid (goal.at.conclude-requires c).After-lay_numbers-laid) c.lay_numbers-laid.ensures (laid-room (goal.at.conclude-requires c).After-lay_numbers-laid)
 
 pub shape_of-domains : goal.shape_of-domains
 shape_of-domains c = ap (λ (r : Room). r.domains) (ended-room (goal.at.shape_of-domains c).After-conclude)
@@ -81,5 +81,5 @@ shape_of-marks c = ap (λ (r : Room). r.marks) (ended-room (goal.at.shape_of-mar
 pub returns : goal.returns
 returns c =
     c.conclude.ensures
-    ∙ stages_called (records_in (numbers (goal.at.returns c).Start)) (input (goal.at.returns c).Start) (forbids_of (numbers (goal.at.returns c).Start)) c.args.words.now (entry (goal.at.returns c).Start) c.begin_code.result (begun (goal.at.returns c).After-begin-code) c.lay_numbers-laid.result (laid (goal.at.returns c).After-lay_numbers-laid)
+    ∙ stages_called (records_in (numbers (goal.at.returns c).Start)) (input (goal.at.returns c).Start) (forbids_of (numbers (goal.at.returns c).Start)) c.args.words.now (entry (goal.at.returns c).Start) c.begin-code.result (begun (goal.at.returns c).After-begin-code) c.lay_numbers-laid.result (laid (goal.at.returns c).After-lay_numbers-laid)
     (begun-stage (goal.at.returns c).After-begin-code) c.lay_numbers-laid.ensures (laid-room (goal.at.returns c).After-lay_numbers-laid ∙ begun-room (goal.at.returns c).After-begin-code)
