@@ -265,8 +265,7 @@ fn choose_all(
 }
 
 // The choices of a run, of forbids that are lent as numbers: for each of at most 65,536 words a cell and a pattern, and an entropy. The answer is how many were made.
-#[unsafe(no_mangle)]
-pub extern "C" fn murghidossu_trace(
+pub fn murghidossu_trace(
     forbids: &[u32],
     count: usize,
     width: usize,
