@@ -1,6 +1,6 @@
 -- `grid::inner::along` meets its contract: the sign of the step decides, as in the definition.
 -- Assumes nothing.
-use mathlib.Core.Bool.{Bool, cond}
+use mathlib.Core.Bool.{Bool, false, cond}
 use mathlib.Core.Option.{some}
 use mathlib.Core.Path.{◌≡◌, refl, ap}
 use Prim.Native.Nat.{ℕ, zero, suc, ◌+◌, ◌-◌, ◌≤◌, ◌<◌}
@@ -8,6 +8,7 @@ use native.Mathlib.Numerals.{add-one}
 use native.Mathlib.Omega.{arith}
 use lib.IntN.{ℤ, pos, negsuc}
 use lib.Signed.{lt_z}
+use borrow.Author.Rules.{rules}
 use borrow.Author.Tests.{lt-ltb, le-ltb}
 use mir.Syntax.{w8}
 use mir.Val.{SFits, to_z, of_z}
@@ -43,6 +44,10 @@ unfolding before
 before-inside w n zero h = absurd (h refl)
 before-inside w n (suc i) h = ap some (omega arith)
 
+-- a step that is neither way stays
+stays : (w : Bool) (n i : ℕ) (s : ℤ) → SFits w8 s → lt_z (pos 0) (to_z w8 (of_z w8 s)) ≡ false → lt_z (to_z w8 (of_z w8 s)) (pos 0) ≡ false → some i ≡ along w n i s
+stays w n i s f on back = rw (by_tests w n i s f, on, back) refl
+
 pub returns-then-place-length : goal.returns-then-place-length
 unfolding place_of
 returns-then-place-length c = rw (by_tests _ _ _ _ c.ranges.step, c.if-step-gt0.true, after-inside _ _ _ c.if-place-length.true)
@@ -59,6 +64,7 @@ pub returns-then-step-lt0 : goal.returns-then-step-lt0
 unfolding place_of
 returns-then-step-lt0 c = rw (by_tests _ _ _ _ c.ranges.step, c.if-step-gt0.false, c.if-step-lt0.true, before-inside _ _ _ c.if-place-eq0.false)
 
+-- no test is cited by its name here, so that another test is refused for what it does
 pub returns : goal.returns
 unfolding place_of
-returns c = rw (by_tests _ _ _ _ c.ranges.step, c.if-step-gt0.false, c.if-step-lt0.false)
+returns c = search (rules, stays)
