@@ -13,7 +13,6 @@ use Rattle.records.specs.Records.{payload_of, rest_of}
 use Rattle.refusals.specs.declared.Refusal.{Refusal}
 use Rattle.refusals.specs.declared.Refusal.TheVariants.{BadSheet, BadCount}
 use Rattle.refusals.specs.Refusals.{Asked, refused, answer, number, first_of}
-use Rattle.layout.specs.Sheet.{Sheet}
 use Rattle.layout.specs.Tables.{table_of}
 use Rattle.layout.specs.Reading.{from_lists, well_formed, sheet_in}
 use Rattle.layout.specs.Lending.{Lent, lent, filled}

@@ -7,8 +7,7 @@ use native.Mathlib.Numerals.{add-one}
 use lib.ListN.{length, drop, drop_of_length-le}
 use lib.Seq.{drop-cons}
 use Rattle.refusals.specs.Refusals.{first_of}
-use Rattle.adjacency.specs.Tables.{table}
-use Rattle.grid.specs.Grid.{grid, cells}
+use Rattle.grid.specs.Grid.{cells}
 use Rattle.forbids.specs.declared.Forbid.{Forbid}
 use Rattle.course.specs.Run.{Given}
 use Rattle.forbids.specs.Forbids.{Placed, forbid_tests}

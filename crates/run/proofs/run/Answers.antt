@@ -4,7 +4,7 @@ use Rattle.std.proofs.Common.{◌≡◌, ap, ◌∙◌, ℕ, length}
 use Rattle.adjacency.specs.Tables.{table}
 use Rattle.grid.specs.Grid.{grid}
 use Rattle.course.specs.Run.{Given, given}
-use Rattle.course.specs.Called.{Memory, memory, room_of}
+use Rattle.course.specs.Called.{Memory, memory}
 use Rattle.run.specs.Stages.{beginning, stage_of, lay_all}
 use Rattle.run.proofs.StandingLaws.{room_same}
 use Rattle.run.proofs.WalkLaws.{begun_stage, at_first, at_next, at-record, at_last, at-stop, run_is}
@@ -50,9 +50,9 @@ returns c =
     let m = memory l.domains l.counts l.pending l.floats l.marks in
     let fs = c.args.forbids.now in
     let led : stage_of c.args.count l.code m ≡ lay_all (input s) fs (begun_stage (input s) fs (entry s)) =
-        elim c.loop-i-test.branch [
-          else-loop-i-test w ↦ at_last (input s) fs (entry s) _ _ _ l.invariant w.loop-i-test.false
-          | then-loop-i-test+then-code-ne0 w ↦ at-stop (input s) fs (entry s) _ _ _ l.invariant w.if-code-ne0.true
-        ]
+    elim c.loop-i-test.branch [
+      | else-loop-i-test w ↦ at_last (input s) fs (entry s) _ _ _ l.invariant w.loop-i-test.false
+      | then-loop-i-test+then-code-ne0 w ↦ at-stop (input s) fs (entry s) _ _ _ l.invariant w.if-code-ne0.true
+    ]
     in
     run_is (input s) fs (entry s) c.args.words.now _ _ _ _ l.invariant led c.conclude.ensures

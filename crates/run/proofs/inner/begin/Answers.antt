@@ -46,7 +46,7 @@ overflow_mul-height c =
 pub begin_state-requires : goal.begin_state-requires
 begin_state-requires c =
     let G = granted (goal.at.begin_state-requires c).After-number_of-refusal c.if-refusal-ne0.false in
-    record { accepted = (G.lawful.accepted, G.lawful.weighed, c.weighted_mask.ensures); opened = granted-opened G; }
+    record { accepted = (G.lawful.accepted, G.lawful.weighed, c.weighted_mask.ensures); opened = granted-opened G }
 
 pub returns : goal.returns
 returns c =

@@ -24,7 +24,7 @@ slice_bounds-lay-end-2 c =
 pub lay-pile-requires : goal.lay-pile-requires
 lay-pile-requires c =
     let (S, hc, hp) = c.requires in
-    record { lent = standing-lent S; ground = standing_ground S; alongside = (standing-alongside S, c.weighted_mask.ensures, lookups_laid c.four_sums-sums.result S.laid.lawful.weighed c.logs-logs.ensures c.four_sums-sums.ensures c.sixteens.ensures); cell_in_bounds = (hc, hp); }
+    record { lent = standing-lent S; ground = standing_ground S; alongside = (standing-alongside S, c.weighted_mask.ensures, lookups_laid c.four_sums-sums.result S.laid.lawful.weighed c.logs-logs.ensures c.four_sums-sums.ensures c.sixteens.ensures); cell_in_bounds = (hc, hp) }
 
 pub shape_of-domains-then-pile : goal.shape_of-domains-then-pile
 shape_of-domains-then-pile c = c.lay-pile.auto.domains

@@ -28,7 +28,7 @@ pub observe-requires : goal.observe-requires
 observe-requires c =
     let a = c.args in
     let S = c.requires in
-    let forgot = c.forget in record { lengths = record { noises = (standing-roomy S).heard; words = refl; values = (standing-roomy S).valued; marked = forgot.auto.marks ∙ standing-marked S }; numbers = standing-numbers S; fresh = forgotten-found a.noise.now c.weighted_mask.result a.domains.now a.floats.now a.marks.now (standing-marked S) forgot.ensures; }
+    let forgot = c.forget in record { lengths = record { noises = (standing-roomy S).heard; words = refl; values = (standing-roomy S).valued; marked = forgot.auto.marks ∙ standing-marked S }; numbers = standing-numbers S; fresh = forgotten-found a.noise.now c.weighted_mask.result a.domains.now a.floats.now a.marks.now (standing-marked S) forgot.ensures }
 
 pub returns : goal.returns
 returns c =

@@ -14,7 +14,7 @@ entry s = memory s.args.domains.now s.args.counts.now s.args.pending.now s.args.
 pub collapse-stop-requires : goal.collapse-stop-requires
 collapse-stop-requires c =
     let S = c.requires in
-    record { lent = standing-lent S; ground = standing_ground S; weighed = (S.laid.lawful.weighed, standing-roomy S, c.weighted_mask.ensures); marks_len = standing-marked S; laid = S.laid; }
+    record { lent = standing-lent S; ground = standing_ground S; weighed = (S.laid.lawful.weighed, standing-roomy S, c.weighted_mask.ensures); marks_len = standing-marked S; laid = S.laid }
 
 pub answer-requires : goal.answer-requires
 answer-requires c =

@@ -2,7 +2,6 @@
 -- from the start.
 -- Assumes nothing.
 use mathlib.Core.Path.{ap}
-use Prim.Native.Nat.{◌-◌}
 use native.Mathlib.Numerals.{add-one}
 use native.Mathlib.Omega.{arith}
 use Rattle.course.specs.Called.{Memory, memory, Room}
