@@ -39,4 +39,4 @@ returns c =
     let words = c.least-w in
     let s = take-least a.size sheet.result a.sheet.now sheet.ensures.0 in
     let n = take-least a.noises noise.result a.noise.now noise.ensures.0 in
-    let w = take-least a.many words.result a.words.now words.ensures.0 in record { by_index = λ b H. c.answer_bytes.ensures.by_index b (held-part s H) ∙ (λ j. laid (answer_of (comes_to (parts b (n j) (w j)))) (pen a.out.now 0)); upper_bound = c.answer_bytes.ensures.upper_bound; }
+    let w = take-least a.many words.result a.words.now words.ensures.0 in record { by_index = λ b H. c.answer_bytes.ensures.by_index b (held-part s H) ∙ (λ j. laid (answer_of (comes_to (parts b (n j) (w j)))) (pen a.out.now 0)); upper_bound = c.answer_bytes.ensures.upper_bound }

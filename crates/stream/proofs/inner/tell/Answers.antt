@@ -27,16 +27,16 @@ pub returns-in-Ended : goal.returns-in-Ended
 returns-in-Ended c =
     let a = c.args in
     let lay = c.lay in
-    record { by_index = λ b H. c.tell_result.ensures.result_after ∙ ap (λ (l : List ℕ). laid l (pen a.out.now 0)) (sym (answer-ended b a.noise.now a.words.now lay.new.domains lay.new.out a.domains.now a.res.now lay.result (lay.ensures b H) c.in-Ended.field-0 c.in-Ended.field-1 c.in-Ended.size c.in-Ended.is)); upper_bound = c.tell_result.ensures.upper_bound; }
+    record { by_index = λ b H. c.tell_result.ensures.result_after ∙ ap (λ (l : List ℕ). laid l (pen a.out.now 0)) (sym (answer-ended b a.noise.now a.words.now lay.new.domains lay.new.out a.domains.now a.res.now lay.result (lay.ensures b H) c.in-Ended.field-0 c.in-Ended.field-1 c.in-Ended.size c.in-Ended.is)); upper_bound = c.tell_result.ensures.upper_bound }
 
 pub returns-in-Refused : goal.returns-in-Refused
 returns-in-Refused c =
     let a = c.args in
     let lay = c.lay in
-    let wrote = c.lay_u16 in record { by_index = λ b H. wrote-number wrote.new.out a.out.now wrote.result c.plain.result wrote.ensures (answer-refused b a.noise.now a.words.now lay.new.domains lay.new.out a.domains.now a.res.now lay.result (lay.ensures b H) c.in-Refused.number c.in-Refused.is) c.plain.ensures; upper_bound = wrote-short wrote.new.out a.out.now wrote.result c.plain.result wrote.ensures; }
+    let wrote = c.lay_u16 in record { by_index = λ b H. wrote-number wrote.new.out a.out.now wrote.result c.plain.result wrote.ensures (answer-refused b a.noise.now a.words.now lay.new.domains lay.new.out a.domains.now a.res.now lay.result (lay.ensures b H) c.in-Refused.number c.in-Refused.is) c.plain.ensures; upper_bound = wrote-short wrote.new.out a.out.now wrote.result c.plain.result wrote.ensures }
 
 pub returns-in-TooLarge : goal.returns-in-TooLarge
 returns-in-TooLarge c =
     let a = c.args in
     let lay = c.lay in
-    let wrote = c.lay_u16-in-TooLarge in record { by_index = λ b H. wrote-number wrote.new.out a.out.now wrote.result 65535 wrote.ensures (answer-large b a.noise.now a.words.now lay.new.domains lay.new.out a.domains.now a.res.now lay.result (lay.ensures b H) c.in-TooLarge.is) refl; upper_bound = wrote-short wrote.new.out a.out.now wrote.result 65535 wrote.ensures; }
+    let wrote = c.lay_u16-in-TooLarge in record { by_index = λ b H. wrote-number wrote.new.out a.out.now wrote.result 65535 wrote.ensures (answer-large b a.noise.now a.words.now lay.new.domains lay.new.out a.domains.now a.res.now lay.result (lay.ensures b H) c.in-TooLarge.is) refl; upper_bound = wrote-short wrote.new.out a.out.now wrote.result 65535 wrote.ensures }

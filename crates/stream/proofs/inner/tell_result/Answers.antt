@@ -25,5 +25,8 @@ returns c =
     let out' = c.lay_u16-at.new.out in
     let at = c.lay_u16-at.result in
     let e = c.lay_u16-at.ensures in
-    let f = c.lay_bytes.ensures in record { result_after = laid_then (u16 0) (take a.size a.res.now) a.out.now 0 e f; upper_bound = omega
-          (arith, pen-place (u16 0) a.out.now 0 e, length-u16 0, pen-place (take a.size a.res.now) out' at f, length-take-le a.size a.res.now c.requires.0, c.requires.1); }
+    let f = c.lay_bytes.ensures in record {
+      result_after = laid_then (u16 0) (take a.size a.res.now) a.out.now 0 e f;
+      upper_bound = omega
+          (arith, pen-place (u16 0) a.out.now 0 e, length-u16 0, pen-place (take a.size a.res.now) out' at f, length-take-le a.size a.res.now c.requires.0, c.requires.1);
+    }

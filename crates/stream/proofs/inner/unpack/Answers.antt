@@ -21,5 +21,8 @@ slice_bounds-answer_numbers-end-4 c = sym (length-take-le _ _ (search rules))
 pub returns : goal.returns
 returns c =
     let a = c.args in
-    let p = c.requires in record { by_index = λ b H. c.answer_numbers.ensures.by_index b H
-          ∙ ap (λ (x : Told Ended). laid (answer_of x) (pen a.out.now 0)) (unpacked b a.noise.now a.words.now c.read.new.out c.read-2.new.out (length a.first.now) (length a.second.now) c.read.ensures c.read-2.ensures (omega (arith, p.0, p.2)) (omega (arith, p.1, p.3))); upper_bound = c.answer_numbers.ensures.upper_bound; }
+    let p = c.requires in record {
+      by_index = λ b H. c.answer_numbers.ensures.by_index b H
+          ∙ ap (λ (x : Told Ended). laid (answer_of x) (pen a.out.now 0)) (unpacked b a.noise.now a.words.now c.read.new.out c.read-2.new.out (length a.first.now) (length a.second.now) c.read.ensures c.read-2.ensures (omega (arith, p.0, p.2)) (omega (arith, p.1, p.3)));
+      upper_bound = c.answer_numbers.ensures.upper_bound;
+    }
