@@ -2,7 +2,6 @@
 -- Assumes nothing.
 use native.Mathlib.Omega.{arith}
 use mathlib.Core.Path.{refl}
-use Prim.Native.Nat.{◌-◌}
 use Rattle.command.specs.Arguments.{number_told}
 use Rattle.command.proofs.ArgumentLaws.{told_is, told-not, read_more, read-stops, read-end, number_none, number_read}
 use Rattle.command.proofs.arguments.number_in.Goals as goal

@@ -1,6 +1,5 @@
 -- `faults::inner::search::bad_forbid` meets its contract. The invariant: the first record that is refused from place i on is the first of all.
 -- Assumes nothing.
-use Prim.Native.Nat.{◌-◌}
 use native.Mathlib.Omega.{arith}
 use Rattle.faults.proofs.SearchLaws.{search_begun, search_turn, search_stop, search_end}
 use Rattle.faults.proofs.EndLaws.{forbid-fails, forbid-passes}

@@ -1,7 +1,6 @@
 -- `faults::inner::search::bad_list` meets its contract. The invariant: the first list that fails from list k on is the first of all.
 -- Assumes nothing.
 use mathlib.Core.Path.{◌≡◌, sym, ap, ◌∙◌}
-use Prim.Native.Nat.{◌-◌}
 use native.Mathlib.Omega.{arith}
 use Rattle.adjacency.specs.Tables.{table}
 use Rattle.adjacency.specs.Checks.{list_ok}

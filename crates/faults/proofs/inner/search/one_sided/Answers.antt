@@ -1,7 +1,6 @@
 -- `faults::inner::search::one_sided` meets its contract. The invariant: the first list that disagrees from list k on is the first of all.
 -- Assumes nothing.
 use mathlib.Core.Path.{sym, ◌∙◌}
-use Prim.Native.Nat.{◌-◌}
 use native.Mathlib.Omega.{arith}
 use Rattle.faults.proofs.SearchLaws.{search_begun, search_turn, search_stop, search_end}
 use Rattle.faults.proofs.inner.search.one_sided.Goals as goal

@@ -1,7 +1,7 @@
 -- `faults::inner::search::unanswered` meets its contract. The invariant: the first entry that does not answer from place i on is the first of all.
 -- Assumes nothing.
 use mathlib.Core.Path.{◌≡◌, sym, ap, ◌∙◌}
-use Prim.Native.Nat.{ℕ, ◌-◌}
+use Prim.Native.Nat.{ℕ}
 use native.Mathlib.Omega.{arith}
 use lib.ListN.{get_or-eq_default}
 use Rattle.loops.specs.Tests.{elem}
