@@ -1,7 +1,7 @@
 -- Laws of a sheet that is read from the stream: the state that some bytes and then others lead to, and what is held of them all.
 -- Assumes nothing.
-use Rattle.std.proofs.Common.{Bool, true, false, List, [], ◌++◌, ◌≡◌, ℕ, ◌+◌, ◌-◌, ◌<◌, ◌≤◌, min, length, get_or, take, refl, sym, ap, ◌∙◌, subst, arith}
-use Rattle.std.proofs.lemmas.List.{take_all, length-append, length-take}
+use Rattle.std.proofs.Common.{Bool, List, [], ◌++◌, ◌≡◌, ℕ, ◌+◌, ◌-◌, ◌<◌, min, length, get_or, take, refl, sym, ap, ◌∙◌, subst, arith}
+use Rattle.std.proofs.lemmas.List.{length-append, length-take}
 use Rattle.std.proofs.Math.Seq.{take-append_seam}
 use Rattle.scan.specs.declared.inner.Scan.{Scan}
 use Rattle.scan.specs.Scanning.{start, past, formed, Scanned}

@@ -1,6 +1,6 @@
 use Rattle.std.proofs.Common.{arith, rules}
 use Rattle.std.proofs.lemmas.List.{length-take-le}
-use Rattle.replay.specs.Input.{Led, Rest}
+use Rattle.replay.specs.Input.{Rest}
 use Rattle.replay.proofs.InputLaws.{led_none, led_more, rest-formed}
 use Rattle.replay.proofs.input.judge_in.Goals as goal
 

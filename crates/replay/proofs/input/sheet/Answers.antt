@@ -1,4 +1,4 @@
-use Rattle.std.proofs.Common.{◌≡◌, arith, rules}
+use Rattle.std.proofs.Common.{arith, rules}
 use Rattle.replay.specs.Input.{Whole}
 use Rattle.replay.proofs.InputLaws.{whole-read}
 use Rattle.replay.proofs.input.sheet.Goals as goal
