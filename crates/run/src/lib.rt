@@ -31,7 +31,6 @@ pub enum Answer {
 // A run: refused, or from the forbids to its end.
 // Lengths: P weights, 4 P + 1 offsets, a noise word and a domain for each cell, 4 P counts, P pending removals and 2 floats for each cell, 2 marks
 // for each cell and one more for each 32 cells or part of them; at most 4,096 forbids.
-// The checker does not cover a slice of structs, so tools/walk.py writes its proof.
 pub fn run(
     forbids: &[Forbid],
     count: usize,
