@@ -2,3 +2,4 @@ pub mod NoteLaws
 pub mod BesideLaws
 pub mod WatchedLaws
 pub mod Cases
+pub mod TouchLaws

@@ -17,8 +17,9 @@ returns-then-m-gt64 c = λ b H.
     let a = c.args in
     let m = c.in-Sheet.m in
     let (w, e) = sizes-some a.sheet.now m c.in-Sheet.is c.sizes.ensures in
+    let short = c.if-sheet-gt90272.false in
     read-many a.sheet.now m w e (lent a.weights.now a.offsets.now a.ids.now a.forbids.now) c.if-m-gt64.true
-    ∙ read_short H (lent a.weights.now a.offsets.now a.ids.now a.forbids.now) c.if-sheet-gt90272.false
+    ∙ read_short H (lent a.weights.now a.offsets.now a.ids.now a.forbids.now) short
 
 pub slice_bounds-read-end-in-Sheet : goal.slice_bounds-read-end-in-Sheet
 slice_bounds-read-end-in-Sheet c = sym (length-take-le _ _ (omega (arith, c.requires.weights_long)))
@@ -37,5 +38,6 @@ returns-else-m-gt64 c = λ b H.
     let a = c.args in
     let m = c.in-Sheet.m in
     let (w, e) = sizes-some a.sheet.now m c.in-Sheet.is c.sizes.ensures in
-    read_whole a.sheet.now m w e c.if-sheet-gt90272.false a.weights.now a.offsets.now a.ids.now a.forbids.now c.requires c.if-m-gt64.false c.read.ensures
-    ∙ read_short H (lent a.weights.now a.offsets.now a.ids.now a.forbids.now) c.if-sheet-gt90272.false
+    let held = c.if-sheet-gt90272.false in
+    read_whole a.sheet.now m w e held a.weights.now a.offsets.now a.ids.now a.forbids.now c.requires c.if-m-gt64.false c.read.ensures
+    ∙ read_short H (lent a.weights.now a.offsets.now a.ids.now a.forbids.now) held
