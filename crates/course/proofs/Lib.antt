@@ -9,3 +9,4 @@ pub mod KeptCourse
 pub mod SoundLaws
 pub mod CalledLaws
 pub mod NumberedLaws
+pub mod ProposalCases
