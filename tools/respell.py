@@ -1,7 +1,7 @@
 #!/usr/bin/env python3
 """Spells this repository's own definitions and lemmas as today's Rattle does, by the table tools/respell.tsv: a name, a tab, its new spelling.
 
-usage: python3 tools/respell.py [TABLE]     at the top of the repository; a second run changes nothing
+usage: python3 tools/respell.py [TABLE]     at the top of the repository, once, right after port.py: what is written later may have steps of these names
 
 Words are in snake case; a dash joins two names only. Turned are whole names: in .antt files, in the clauses and `ghost use` lines of .rt files, in the texts of
 the wrong edits (must-fail/ and slow-edits/), and in the code spans of README.md and docs/. A name with a dash is left in comments, and behind a dot in what proves
