@@ -13,7 +13,12 @@ pub mod inner;
 mod observer;
 
 // The pattern that a word chooses in a domain, asked apart from a run, and none for a domain without a weighted pattern.
-pub fn choice_of(count: usize, weights: &[u32], domain: u64, word: u32) -> Result<Option<usize>, Refusal>
+pub fn choice_of(
+    count: usize,
+    weights: &[u32],
+    domain: u64,
+    word: u32,
+) -> Result<Option<usize>, Refusal>
     ensures { choice_told result ≡ choice_asked count weights.now domain word }
 {
     logarithms::inner::check_domain(count, weights, domain)?;
