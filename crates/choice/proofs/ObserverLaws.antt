@@ -22,7 +22,8 @@ use Rattle.adjacency.specs.Weights.{weight_sum, mask}
 use Rattle.notes.specs.Notes.{note_of}
 use Rattle.std.specs.Prelude.{Some, None}
 use Rattle.std.proofs.lemmas.Option.{same_Some}
-use Rattle.choice.specs.Observer.{Notes, notes_in, Lengths, valid, note_at, entropy_at, counts_at, better_than, Best, At, Empty, join, candidate, best_in, observed_as, observe, Observed, Sight, sight}
+use Rattle.choice.specs.declared.inner.Sight.{Sight}
+use Rattle.choice.specs.Observer.{Notes, notes_in, Lengths, valid, note_at, entropy_at, counts_at, better_than, Best, At, Empty, join, candidate, best_in, observed_as, observe, Observed, sight}
 use Rattle.loops.proofs.TestLaws.{both}
 use Rattle.words.proofs.CountLaws.{many_none}
 use Rattle.order.proofs.OrderLaws.{lt_irreflexive}

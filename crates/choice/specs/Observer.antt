@@ -10,7 +10,7 @@ use Rattle.words.specs.Words.{how_many}
 use Rattle.notes.specs.Blocks.{blocks}
 use Rattle.notes.specs.Notes.{note}
 use Rattle.notes.specs.declared.inner.Note.{Note}
-pub use Rattle.choice.specs.declared.inner.Sight.{Sight}
+use Rattle.choice.specs.declared.inner.Sight.{Sight}
 
 -- what the observer reads: an entropy, a noise word, a weighted count and a domain for each cell, and the word of the weighted patterns
 pub record Notes : Type 0 where

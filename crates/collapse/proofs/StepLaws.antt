@@ -32,7 +32,8 @@ use Rattle.notes.specs.Sizes.{Alongside}
 use Rattle.forbids.specs.declared.Forbid.{Forbid}
 use Rattle.course.specs.Run.{Given, asked, reduced_by, laid, chosen, decided, still, notes_of, sighted, seen, drawn, turn, Turn, ended}
 use Rattle.std.specs.Prelude.{Some, None}
-use Rattle.choice.specs.Observer.{notes_in, observe, Sight, sight_of, Observed, sight}
+use Rattle.choice.specs.declared.inner.Sight.{Sight}
+use Rattle.choice.specs.Observer.{notes_in, observe, sight_of, Observed, sight}
 use Rattle.choice.specs.Choice.{draw, taken}
 use Rattle.forbids.specs.Forbids.{asking}
 use Rattle.loops.proofs.TestLaws.{every-turn, every-stop, every-end}

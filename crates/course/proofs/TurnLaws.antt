@@ -14,7 +14,8 @@ use Rattle.consistency.specs.Worklist.{State}
 use Rattle.consistency.specs.Start.{others}
 use Rattle.notes.specs.Beside.{Beside}
 use Rattle.std.specs.Prelude.{Some, None}
-use Rattle.choice.specs.Observer.{Notes, counts_at, observe, Sight, sight_of, Observed, sight}
+use Rattle.choice.specs.declared.inner.Sight.{Sight}
+use Rattle.choice.specs.Observer.{Notes, counts_at, observe, sight_of, Observed, sight}
 use Rattle.choice.specs.Choice.{Draw, draw, taken}
 use Rattle.course.specs.Run.{Given, reduced_by, notes_of, sighted, Ended, ended, decided, still, chosen, Turn, drawn, seen, turn, collapse}
 use Rattle.course.specs.Course.{other_than, drawn_off, seen_off, turned_off}

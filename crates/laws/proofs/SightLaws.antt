@@ -13,7 +13,8 @@ use Rattle.grid.specs.Grid.{cells}
 use Rattle.consistency.specs.Worklist.{State}
 use Rattle.notes.specs.Beside.{Beside}
 use Rattle.std.specs.Prelude.{Some, None}
-use Rattle.choice.specs.Observer.{entropy_at, counts_at, observe, Sight, sight_of, Observed, sight}
+use Rattle.choice.specs.declared.inner.Sight.{Sight}
+use Rattle.choice.specs.Observer.{entropy_at, counts_at, observe, sight_of, Observed, sight}
 use Rattle.forbids.specs.declared.Forbid.{Forbid}
 use Rattle.course.specs.Run.{Given, notes_of, sighted}
 use Rattle.course.specs.Course.{Lawful, Reached}
