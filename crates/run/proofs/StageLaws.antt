@@ -5,10 +5,7 @@ use mathlib.Core.List.{List, ◌∷◌, ◌++◌, []}
 use mathlib.Core.Path.{◌≡◌, refl, ◌∙◌, sym, ap}
 use Prim.Native.Nat.{ℕ, zero, suc, ◌+◌, ◌<◌}
 use native.Mathlib.Numerals.{add-one}
-use native.Mathlib.Omega.{arith}
-use lib.Dec.{eqb}
 use lib.ListN.{length, replicate}
-use borrow.Author.Tests.{eqb-true, ne_eqb}
 use Rattle.std.specs.Prelude.{Result, Ok, Err}
 use Rattle.refusals.specs.declared.Refusal.{Refusal}
 use Rattle.refusals.specs.Refusals.{first_of, answer, number, number_of}

@@ -3,7 +3,7 @@
 use mathlib.Core.Bool.{Bool, true, false, cond}
 use mathlib.Core.List.{List, [], append-nil}
 use mathlib.Core.Path.{◌≡◌, refl, sym, ap, subst, ◌∙◌}
-use Prim.Native.Nat.{ℕ, zero, suc, ◌+◌, ◌*◌, ◌≤◌, ◌<◌}
+use Prim.Native.Nat.{ℕ, zero, suc, ◌+◌, ◌*◌, ◌<◌}
 use native.Mathlib.Nat.{mul-le-mul}
 use native.Mathlib.Omega.{arith}
 use lib.Dec.{eqb}
@@ -12,7 +12,7 @@ use borrow.Author.Tests.{eq-eqb, ne_eqb}
 use Rattle.order.specs.Numbers.{Numbers}
 use Rattle.std.specs.Prelude.{Result, Ok, Err}
 use Rattle.refusals.specs.declared.Refusal.{Refusal}
-use Rattle.refusals.specs.Refusals.{first_of, Asked, answer, number, number_of}
+use Rattle.refusals.specs.Refusals.{first_of, answer, number, number_of}
 use Rattle.grid.specs.Grid.{cells}
 use Rattle.notes.specs.Blocks.{blocks}
 use Rattle.consistency.specs.Worklist.{State, state}
@@ -26,7 +26,7 @@ use Rattle.collapse.specs.declared.Stop.{Stop}
 use Rattle.collapse.specs.Endings.{end_number}
 use Rattle.course.specs.Run.{Given, begun, asked, laid, Ended, collapse}
 use Rattle.course.specs.Course.{full_less, wanted}
-use Rattle.course.specs.Called.{Memory, memory, Room, room, room_of, base_tests, tests_of, End, Outcome, outcome, cleared, finished}
+use Rattle.course.specs.Called.{Memory, memory, Room, room, room_of, base_tests, tests_of, outcome, cleared, finished}
 use Rattle.collapse.specs.Steps.{Opened, idle, ended_as}
 use Rattle.forbids.specs.Forbids.{forbid_tests}
 use Rattle.run.specs.Answers.{answer_told}
@@ -35,9 +35,7 @@ use Rattle.refusals.proofs.RefusalLaws.{number-positive}
 use Rattle.consistency.proofs.Settled.{Settled}
 use Rattle.propagation.proofs.LentLaws.{safe-beside}
 use Rattle.course.proofs.StateLaws.{asked-inside, reduced_by-settled, forbade-settled}
-use Rattle.course.proofs.CourseLaws.{run_final}
-use Rattle.course.proofs.EndLaws.{end-most}
-use Rattle.collapse.proofs.TurnsLaws.{pile_idle, laid-run, laid-numbers}
+use Rattle.collapse.proofs.TurnsLaws.{pile_idle, laid-numbers}
 use Rattle.collapse.proofs.WatchLaws.{laid-at}
 use Rattle.course.proofs.CalledLaws.{Granted, called-granted}
 

@@ -1,6 +1,6 @@
 -- `run::run` meets its contract: it begins, lays the forbids one by one until one empties a cell, and concludes.
 -- Follows docs/RULES.md, "Run" and "Refusals". Assumes nothing.
-use Rattle.std.proofs.Common.{◌≡◌, sym, ap, ◌∙◌, ℕ, length}
+use Rattle.std.proofs.Common.{◌≡◌, ap, ◌∙◌, ℕ, length}
 use Rattle.std.proofs.lemmas.Result.{err_from_is_err_and}
 use Rattle.refusals.specs.Refusals.{number_of}
 use Rattle.adjacency.specs.Tables.{table}

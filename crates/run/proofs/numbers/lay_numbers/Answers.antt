@@ -1,9 +1,8 @@
 -- `run::numbers::lay_numbers` meets its contract. The invariant: the forbids before place i are laid, and the rest laid from here is all of them laid
 -- from the start.
 -- Assumes nothing.
-use mathlib.Core.Path.{ap}
 use native.Mathlib.Numerals.{add-one}
-use Rattle.course.specs.Called.{Memory, memory, Room}
+use Rattle.course.specs.Called.{Memory, memory}
 use Rattle.run.proofs.StandingLaws.{room_same}
 use Rattle.run.proofs.LayingLaws.{laying_start, laying_ready, laying_again, laying_over, laying_end}
 use Rattle.run.proofs.numbers.lay_numbers.Goals as goal
