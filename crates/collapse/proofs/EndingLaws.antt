@@ -1,7 +1,7 @@
 -- Laws of the ends of a run: a number names one end, and there are four. Follows docs/RULES.md, "Run".
 -- Assumes nothing.
 use mathlib.Core.List.{◌∷◌, []}
-use mathlib.Core.Path.{◌≡◌, refl}
+use mathlib.Core.Path.{◌≡◌, refl, sym, ap, ◌∙◌}
 use Prim.Native.Nat.{ℕ, ◌≤◌}
 use native.Mathlib.Omega.{arith}
 use lib.ListN.{get_or}
@@ -24,3 +24,6 @@ end_number-most Decided = omega arith
 end_number-most Undecided = omega arith
 end_number-most Paused = omega arith
 end_number-most Contradiction = omega arith
+
+pub end_number-injective : (d e : Ending) → end_number d ≡ end_number e → d ≡ e
+end_number-injective d e q = sym (ending_number d) ∙ ap ending q ∙ ending_number e
