@@ -3,7 +3,8 @@ ghost use Rattle.std.specs.Prelude.{◌≡◌, ◌≤◌, ◌<◌, min, length};
 
 use crate::choices::tell;
 use crate::{input, print};
-use run::Answer;
+use refusals::Refusal;
+use run::{Ending, Stop};
 use starting::Propagated;
 use std::io::Read;
 use stream::inner::{Next, least};
@@ -84,44 +85,6 @@ pub(crate) fn marks_to_lend() -> [u8; 2081]
 
 // ---- a run
 
-// What a run tells: a refusal's number, or 0 with the end and the words used.
-#[derive(Clone, Copy)]
-struct Told {
-    refused: u32,
-    end: u64,
-    used: usize,
-}
-
-fn told_of(answer: Answer) -> Told {
-    match answer {
-        Answer::Decided(used) => Told {
-            refused: 0,
-            end: 0,
-            used: used,
-        },
-        Answer::Undecided(used) => Told {
-            refused: 0,
-            end: 1,
-            used: used,
-        },
-        Answer::Paused(used) => Told {
-            refused: 0,
-            end: 2,
-            used: used,
-        },
-        Answer::Contradiction(used) => Told {
-            refused: 0,
-            end: 3,
-            used: used,
-        },
-        Answer::Refused(refusal) => Told {
-            refused: refusals::inner::number(refusal),
-            end: 0,
-            used: 0,
-        },
-    }
-}
-
 // The run, on parts of the memory of the lengths that the call asks for.
 fn solve(
     a: Asked,
@@ -132,7 +95,7 @@ fn solve(
     noise: &[u32],
     words: &[u32],
     domains: &mut [u64],
-) -> Answer
+) -> Result<Stop, Refusal>
     requires { (a.domains ≤ 1025) × (a.counts ≤ 262145) × (a.pending ≤ 65537) × (a.floats ≤ 2049) × (a.marks ≤ 2081) × (1025 ≡ length domains.old) }
 {
     let mut counts = counts_to_lend();
@@ -186,16 +149,16 @@ fn emptied(a: &[u64; 1025], many: usize) -> bool {
 // Says where the choices lead elsewhere than the run, which leaves all domains zero after a contradiction and has used a word for each choice.
 fn compare<O: Print>(
     out: &O,
-    told: Told,
+    stop: Stop,
     made: usize,
     a: &[u64; 1025],
     b: &[u64; 1025],
     many: usize,
 ) {
-    if made != told.used {
+    if made != stop.used {
         print::text(out, b"the choices are not as many as the words\n");
     }
-    if told.end == 3 {
+    if stop.end == Ending::Contradiction {
         if !emptied(b, many) {
             print::text(out, b"the choices end in no contradiction\n");
         }
@@ -221,7 +184,7 @@ fn run_told<O: Print>(
     let a = asked_of(head);
     let mut domains = domains_to_lend();
     let many = wide(head[12]);
-    let told = told_of(solve(
+    let stop = match solve(
         a,
         forbids,
         weights,
@@ -230,18 +193,24 @@ fn run_told<O: Print>(
         noise,
         words,
         &mut domains,
-    ));
-    if told.refused != 0 || !whole {
-        print::refused(out, told.refused);
+    ) {
+        Ok(stop) => stop,
+        Err(refusal) => {
+            print::refused(out, Err(refusal));
+            return;
+        }
+    };
+    if !whole {
+        print::refused(out, Ok(()));
         return;
     }
-    print::end(out, told.end, told.used);
+    print::end(out, stop);
     print::domains(out, &domains, many);
     let mut again = domains_to_lend();
     let made = tell(
         out, a, forbids, weights, offsets, ids, noise, words, &mut again,
     );
-    compare(out, told, made, &domains, &again, many);
+    compare(out, stop, made, &domains, &again, many);
 }
 
 // ---- propagation, and a list that is looked up
@@ -264,16 +233,12 @@ fn put_domains(halves: &[u32], domains: &mut [u64; 1025]) {
     }
 }
 
-// The number of propagation's refusal, 0 where it is accepted.
-fn refused_of(answer: Propagated) -> u32 {
-    match answer {
-        Propagated::Refused(refusal) => refusals::inner::number(refusal),
-        Propagated::Consistent => 0,
-        Propagated::Contradiction => 0,
-    }
-}
-
-fn propagate(a: Asked, offsets: &[u32], ids: &[u8], domains: &mut [u64]) -> Propagated
+fn propagate(
+    a: Asked,
+    offsets: &[u32],
+    ids: &[u8],
+    domains: &mut [u64],
+) -> Result<Propagated, Refusal>
     requires { (a.domains ≤ 1025) × (a.counts ≤ 262145) × (a.pending ≤ 65537) × (1025 ≡ length domains.old) }
 {
     let mut counts = counts_to_lend();
@@ -312,7 +277,7 @@ fn propagate_told<O: Print>(
     let mut domains = starting(halves);
     print::refused(
         out,
-        refused_of(propagate(asked_of(head), offsets, ids, &mut domains)),
+        propagate(asked_of(head), offsets, ids, &mut domains).map(|_| ()),
     );
     print::domains(out, &domains, wide(head[12]));
 }
@@ -328,9 +293,7 @@ fn list_told<O: Print>(out: &O, head: &[u32; 17], offsets: &[u32], ids: &[u8]) {
     );
     print::refused(
         out,
-        refusals::inner::number_of(adjacency::list_refusal(
-            count, offsets, ids, pattern, direction,
-        )),
+        adjacency::list_refusal(count, offsets, ids, pattern, direction),
     );
 }
 

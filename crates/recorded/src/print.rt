@@ -1,4 +1,7 @@
 // Lines on standard output, as they stand in vectors/. What cannot be written is left out, and shows when the output is held to what was recorded.
+use refusals::Refusal;
+use run::Stop;
+
 pub(crate) fn text<O: Print>(out: &O, bytes: &[u8]) {
     let _ = out.write_all(bytes);
 }
@@ -7,16 +10,17 @@ pub(crate) fn number<O: Print>(out: &O, n: u64) {
     let _ = print!(out; " {n}");
 }
 
-pub(crate) fn refused<O: Print>(out: &O, n: u32) {
+// The number of a refusal, 0 where nothing is refused.
+pub(crate) fn refused<O: Print>(out: &O, checked: Result<(), Refusal>) {
     text(out, b"refused");
-    number(out, n as u64);
+    number(out, refusals::inner::number_of(checked) as u64);
     text(out, b"\n");
 }
 
-pub(crate) fn end<O: Print>(out: &O, end: u64, used: usize) {
+pub(crate) fn end<O: Print>(out: &O, stop: Stop) {
     text(out, b"end");
-    number(out, end);
-    number(out, used as u64);
+    number(out, u32::from(stop.end) as u64);
+    number(out, stop.used as u64);
     text(out, b"\n");
 }
 

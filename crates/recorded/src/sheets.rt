@@ -3,7 +3,8 @@ ghost use Rattle.std.specs.Prelude.{◌≡◌, ◌≤◌, length};
 
 use crate::calls::{wide, within};
 use crate::print;
-use sheet::{Measures, SizesAnswer, Written};
+use refusals::Refusal;
+use sheet::Measures;
 use stream::inner::least;
 
 // Memory to lend. That it is so long is all that is said of it.
@@ -77,26 +78,6 @@ fn number_sevens(numbers: &[u32; 16384], from: usize, to: usize) -> usize {
 
 // ---- a sheet that is written
 
-// What writing tells: a refusal's number, or 0 with the number of bytes.
-#[derive(Clone, Copy)]
-struct Wrote {
-    refused: u32,
-    bytes: usize,
-}
-
-fn wrote_of(written: Written) -> Wrote {
-    match written {
-        Written::Bytes(n) => Wrote {
-            refused: 0,
-            bytes: n,
-        },
-        Written::Refused(refusal) => Wrote {
-            refused: refusals::inner::number(refusal),
-            bytes: 0,
-        },
-    }
-}
-
 // Writing, to a part of the memory of the length that the call asks for.
 fn write_in(
     head: &[u32; 17],
@@ -105,9 +86,9 @@ fn write_in(
     offsets: &[u32],
     ids: &[u8],
     out: &mut [u8],
-) -> Wrote {
+) -> Result<usize, Refusal> {
     let room = within(head[12], out.len());
-    wrote_of(sheet::write(
+    sheet::write(
         wide(head[0]),
         weights,
         offsets,
@@ -117,7 +98,7 @@ fn write_in(
         wide(head[3]),
         forbids,
         &mut out[..room],
-    ))
+    )
 }
 
 // Writing, told with the bytes and with how many past them stayed.
@@ -130,12 +111,17 @@ pub(crate) fn write_told<O: Print>(
     ids: &[u8],
 ) {
     let mut room = bytes_to_lend();
-    let wrote = write_in(head, forbids, weights, offsets, ids, &mut room);
-    let bytes = wrote.bytes;
-    print::refused(out, wrote.refused);
-    if wrote.refused == 0 {
-        print::sheet(out, &room, bytes);
-    }
+    let bytes = match write_in(head, forbids, weights, offsets, ids, &mut room) {
+        Ok(bytes) => {
+            print::refused(out, Ok(()));
+            print::sheet(out, &room, bytes);
+            bytes
+        }
+        Err(refusal) => {
+            print::refused(out, Err(refusal));
+            0
+        }
+    };
     print::text(out, b"stayed");
     print::number(out, byte_sevens(&room, bytes, wide(head[12])) as u64);
     print::text(out, b"\n");
@@ -144,41 +130,13 @@ pub(crate) fn write_told<O: Print>(
 // ---- a sheet that is read
 
 // How much a sheet holds, or why that is not told.
-#[derive(Clone, Copy)]
-struct Held {
-    refused: u32,
-    measures: Measures,
-}
-
-fn nothing() -> Measures {
-    Measures {
-        count: 0,
-        ids: 0,
-        width: 0,
-        height: 0,
-        mode: 0,
-        forbids: 0,
-    }
-}
-
-fn held_of(answer: SizesAnswer) -> Held {
-    match answer {
-        SizesAnswer::Sheet(m) => Held {
-            refused: 0,
-            measures: m,
-        },
-        SizesAnswer::Refused(refusal) => Held {
-            refused: refusals::inner::number(refusal),
-            measures: nothing(),
-        },
-    }
-}
-
-fn tell_held<O: Print>(out: &O, held: Held) {
-    print::refused(out, held.refused);
-    if held.refused == 0 {
-        let m = held.measures;
-        print::sizes(out, m.count, m.ids, m.width, m.height, m.mode, m.forbids);
+fn tell_held<O: Print>(out: &O, held: Result<Measures, Refusal>) {
+    match held {
+        Ok(m) => {
+            print::refused(out, Ok(()));
+            print::sizes(out, m.count, m.ids, m.width, m.height, m.mode, m.forbids);
+        }
+        Err(refusal) => print::refused(out, Err(refusal)),
     }
 }
 
@@ -190,18 +148,18 @@ fn read_in(
     offsets: &mut [u32],
     ids: &mut [u8],
     forbids: &mut [u32],
-) -> Held {
+) -> Result<Measures, Refusal> {
     let w = within(head[12], weights.len());
     let o = within(head[13], offsets.len());
     let i = within(head[14], ids.len());
     let f = within(head[15], forbids.len());
-    held_of(sheet::read(
+    sheet::read(
         bytes,
         &mut weights[..w],
         &mut offsets[..o],
         &mut ids[..i],
         &mut forbids[..f],
-    ))
+    )
 }
 
 // Where the entries of a sheet end in each slice; nothing stands in them where it is refused.
@@ -213,16 +171,15 @@ struct Ends {
     forbids: usize,
 }
 
-fn ends_of(held: Held) -> Ends {
-    if held.refused != 0 {
+fn ends_of(held: Result<Measures, Refusal>) -> Ends {
+    let Ok(m) = held else {
         return Ends {
             weights: 0,
             offsets: 0,
             ids: 0,
             forbids: 0,
         };
-    }
-    let m = held.measures;
+    };
     Ends {
         weights: m.count,
         offsets: 4 * least(m.count, 64) + 1,
@@ -235,14 +192,14 @@ fn ends_of(held: Held) -> Ends {
 fn tell_slices<O: Print>(
     out: &O,
     head: &[u32; 17],
-    held: Held,
+    held: Result<Measures, Refusal>,
     weights: &[u32; 16384],
     offsets: &[u32; 16384],
     ids: &[u8; 131072],
     forbids: &[u32; 16384],
 ) {
     let ends = ends_of(held);
-    if held.refused == 0 {
+    if held.is_ok() {
         print::numbers(out, b"weights", weights, ends.weights);
         print::numbers(out, b"offsets", offsets, ends.offsets);
         print::ids(out, ids, ends.ids);
@@ -267,7 +224,7 @@ fn tell_slices<O: Print>(
 
 // Reading, told with what `sizes` tells of the same bytes, the entries and how many past them stayed.
 pub(crate) fn read_told<O: Print>(out: &O, head: &[u32; 17], bytes: &[u8]) {
-    tell_held(out, held_of(sheet::sizes(bytes)));
+    tell_held(out, sheet::sizes(bytes));
     let mut weights = numbers_to_lend();
     let mut offsets = numbers_to_lend();
     let mut ids = bytes_to_lend();
