@@ -3,15 +3,17 @@ ghost use Rattle.bounded.specs.Laid.{Front};
 
 use crate::inner::files;
 use crate::inner::parts::domains_of;
-use bounded::inner::{Ground, Laid, memory};
+use bounded::inner::{Ground, Unfit, memory};
 use command::files::Names;
 use command::sentences::{TOO_LARGE, UNWRITTEN};
+use refusals::Refusal;
 use std::io::Write;
 use std::rt::{Env, Files};
 
 // Why a sheet was refused, and where it is wrong.
-pub(crate) fn refused<T: Print>(told: &T, sheet: &[u8], number: u32) {
+pub(crate) fn refused<T: Print>(told: &T, sheet: &[u8], refusal: Refusal) {
     let mut page = transfer::buffer();
+    let number = u32::from(refusal);
     let place = faults::inner::place_in(sheet, number);
     let n = command::sentences::put_refusal(number as usize, place, 0, &mut page);
     files::print(told, &page, n);
@@ -201,18 +203,18 @@ pub(crate) fn run<R: Env + Files + Print, T: Print>(
     let mut domains = memory::domains_to_lend();
     let mut bytes = memory::result_to_lend();
     match bounded::inner::lay(sheet, formed, noise, words, &mut domains, &mut bytes) {
-        Laid::Refused(number) => refused(told, sheet, number),
-        Laid::TooLarge => fault(told, TOO_LARGE),
-        Laid::Ended(end, used, length) => laid(
+        Err(Unfit::Refused(refusal)) => refused(told, sheet, refusal),
+        Err(Unfit::TooLarge) => fault(told, TOO_LARGE),
+        Ok(run) => laid(
             rt,
             names,
             told,
             ground,
-            end as usize,
-            used,
+            u32::from(run.end) as usize,
+            run.used,
             domains_of(&domains, cells),
             &bytes,
-            length,
+            run.size,
         ),
     }
 }
