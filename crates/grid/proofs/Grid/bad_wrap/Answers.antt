@@ -1,8 +1,8 @@
--- `grid::inner::bad_wrap` meets its contract: it makes the definition's test.
+-- `grid::Grid::bad_wrap` meets its contract: it makes the definition's test.
 -- Assumes nothing.
 use mathlib.Core.Path.{refl}
 use Rattle.grid.specs.Grid.{bad_wrap}
-use Rattle.grid.proofs.inner.bad_wrap.Goals as goal
+use Rattle.grid.proofs.Grid.bad_wrap.Goals as goal
 
 pub returns : goal.returns
 unfolding bad_wrap
