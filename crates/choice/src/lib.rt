@@ -6,7 +6,7 @@
 ghost use Rattle.std.specs.Prelude.{◌≡◌};
 ghost use Rattle.choice.specs.Asked.{choice_told, choice_asked};
 
-use refusals::{Refusal, Verdict};
+use refusals::Refusal;
 
 mod blocks;
 pub mod inner;
@@ -25,8 +25,8 @@ pub fn choice_of(count: usize, weights: &[u32], domain: u64, word: u32) -> Choic
     ensures { choice_told result ≡ choice_asked count weights.now domain word }
 {
     match logarithms::inner::check_domain(count, weights, domain) {
-        Verdict::Refused(refusal) => Choice::Refused(refusal),
-        Verdict::Accepted => {
+        Err(refusal) => Choice::Refused(refusal),
+        Ok(()) => {
             let sum = adjacency::inner::weight_sum(weights, domain);
             if sum == 0 {
                 return Choice::Nothing;

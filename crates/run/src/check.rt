@@ -6,7 +6,7 @@ ghost use Rattle.grid.specs.Grid.{grid};
 ghost use Rattle.course.specs.Run.{given};
 ghost use Rattle.course.specs.Called.{room, bad_memory, bad_lengths, base_tests};
 
-use refusals::{Refusal, Verdict};
+use refusals::Refusal;
 
 // Whether a slice that a run writes has not its published length; the last five are the lengths of those.
 fn bad_memory(
@@ -84,19 +84,19 @@ pub(crate) fn check(
     pending: usize,
     floats: usize,
     marks: usize,
-) -> Verdict
+) -> Result<(), Refusal>
     ensures { number_of result
         ≡ first_of (base_tests (given (table count offsets.now ids.now) weights.now (grid width height mode) noise.now)
         forbids (room domains counts pending floats marks)) }
 {
     if adjacency::inner::bad_count(count) {
-        return Verdict::Refused(Refusal::BadCount);
+        return Err(Refusal::BadCount);
     }
     if grid::inner::bad_size(width, height) {
-        return Verdict::Refused(Refusal::BadSize);
+        return Err(Refusal::BadSize);
     }
     if grid::inner::bad_wrap(mode) {
-        return Verdict::Refused(Refusal::BadWrap);
+        return Err(Refusal::BadWrap);
     }
     if bad_lengths(
         count,
@@ -111,16 +111,16 @@ pub(crate) fn check(
         floats,
         marks,
     ) {
-        return Verdict::Refused(Refusal::BadLength);
+        return Err(Refusal::BadLength);
     }
     if adjacency::inner::over_weight(weights) {
-        return Verdict::Refused(Refusal::BadWeights);
+        return Err(Refusal::BadWeights);
     }
     if adjacency::inner::bad_list(count, offsets, ids) {
-        return Verdict::Refused(Refusal::BadList);
+        return Err(Refusal::BadList);
     }
     if adjacency::inner::disagrees(count, offsets, ids) {
-        return Verdict::Refused(Refusal::Disagree);
+        return Err(Refusal::Disagree);
     }
-    Verdict::Accepted
+    Ok(())
 }

@@ -5,7 +5,7 @@ ghost use Rattle.adjacency.specs.Tables.{table};
 ghost use Rattle.grid.specs.Grid.{grid};
 ghost use Rattle.starting.specs.Propagate.{bad_lengths, bad_domains, propagate_refusal};
 
-use refusals::{Refusal, Verdict};
+use refusals::Refusal;
 
 // Whether a lent slice has not its published length; `domains`, `counts` and `pending` are the lengths of those.
 fn bad_lengths(
@@ -57,18 +57,18 @@ pub(crate) fn check(
     domains: &[u64],
     counts: usize,
     pending: usize,
-) -> Verdict
+) -> Result<(), Refusal>
     ensures { number_of result
         ≡ propagate_refusal (table count offsets.now ids.now) (grid width height mode) domains.now counts pending }
 {
     if adjacency::inner::bad_count(count) {
-        return Verdict::Refused(Refusal::BadCount);
+        return Err(Refusal::BadCount);
     }
     if grid::inner::bad_size(width, height) {
-        return Verdict::Refused(Refusal::BadSize);
+        return Err(Refusal::BadSize);
     }
     if grid::inner::bad_wrap(mode) {
-        return Verdict::Refused(Refusal::BadWrap);
+        return Err(Refusal::BadWrap);
     }
     if bad_lengths(
         count,
@@ -78,16 +78,16 @@ pub(crate) fn check(
         counts,
         pending,
     ) {
-        return Verdict::Refused(Refusal::BadLength);
+        return Err(Refusal::BadLength);
     }
     if adjacency::inner::bad_list(count, offsets, ids) {
-        return Verdict::Refused(Refusal::BadList);
+        return Err(Refusal::BadList);
     }
     if adjacency::inner::disagrees(count, offsets, ids) {
-        return Verdict::Refused(Refusal::Disagree);
+        return Err(Refusal::Disagree);
     }
     if bad_domains(count, domains) {
-        return Verdict::Refused(Refusal::BadPattern);
+        return Err(Refusal::BadPattern);
     }
-    Verdict::Accepted
+    Ok(())
 }

@@ -8,7 +8,7 @@ ghost use Rattle.adjacency.specs.Tables.{table};
 ghost use Rattle.grid.specs.Grid.{grid};
 ghost use Rattle.starting.specs.Propagate.{outcome, propagated_told, propagate_of};
 
-use refusals::{Refusal, Verdict};
+use refusals::Refusal;
 
 mod check;
 mod given;
@@ -51,8 +51,8 @@ pub fn propagate(
         pending.len(),
     );
     match verdict {
-        Verdict::Refused(refusal) => Propagated::Refused(refusal),
-        Verdict::Accepted => {
+        Err(refusal) => Propagated::Refused(refusal),
+        Ok(()) => {
             let contradiction = settle::settle(
                 count, offsets, ids, width, height, mode, domains, counts, pending,
             );

@@ -1,8 +1,8 @@
--- `refusals::inner::number` meets its contract.
+-- The number of a refusal is that of its definition.
 -- Assumes nothing.
 use mathlib.Core.Path.{sym, ap}
 use Rattle.refusals.specs.Refusals.{number}
-use Rattle.refusals.proofs.inner.number.Goals as goal
+use Rattle.refusals.proofs.U32FromRefusal.from.Goals as goal
 
 pub returns-in-BadSize : goal.returns-in-BadSize
 unfolding number
