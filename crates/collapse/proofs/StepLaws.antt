@@ -31,9 +31,9 @@ use Rattle.propagation.specs.Lent.{state_of, Lent, Ground}
 use Rattle.notes.specs.Sizes.{Alongside}
 use Rattle.forbids.specs.declared.Forbid.{Forbid}
 use Rattle.course.specs.Run.{Given, asked, reduced_by, laid, chosen, decided, still, notes_of, sighted, seen, drawn, turn, Turn, ended}
-use Rattle.choice.specs.declared.inner.Observed.{Observed}
-use Rattle.choice.specs.declared.inner.Observed.TheVariants.{Cell, Nothing}
-use Rattle.choice.specs.Observer.{notes_in, observe, Sight, sight_of}
+use Rattle.std.specs.Prelude.{Some, None}
+use Rattle.choice.specs.declared.inner.Sight.{Sight}
+use Rattle.choice.specs.Observer.{notes_in, observe, sight_of, Observed, sight}
 use Rattle.choice.specs.Choice.{draw, taken}
 use Rattle.forbids.specs.Forbids.{asking}
 use Rattle.loops.proofs.TestLaws.{every-turn, every-stop, every-end}
@@ -295,16 +295,16 @@ module _ (i : Given) (words : List ℕ) (used : ℕ) (s : State Beside) {n m : �
   unfolding sighted notes_of
   observed-sight = rw (e, all, masked)
 
-  cell-sight : {c : ℕ} {f : Float} → o ≡ Cell c f → sighted i s ≡ some (record { cell = c; entropy = f })
+  cell-sight : {c : ℕ} {f : Float} → o ≡ Some (sight c f) → sighted i s ≡ some (record { cell = c; entropy = f })
   unfolding sight_of
   cell-sight q = sym observed-sight ∙ ap sight_of q
 
   -- the cell that is observed is one of the grid, and weighs something
-  pub cell-inside : {c : ℕ} {f : Float} → o ≡ Cell c f → c < length s.domains
+  pub cell-inside : {c : ℕ} {f : Float} → o ≡ Some (sight c f) → c < length s.domains
   unfolding sighted notes_of
   cell-inside q = (sight-counts (notes_of i s) _ (cell-sight q)).0
 
-  pub cell-weight : {c : ℕ} {f : Float} → o ≡ Cell c f → 0 < weight_sum i.weights (get_or s.domains c 0)
+  pub cell-weight : {c : ℕ} {f : Float} → o ≡ Some (sight c f) → 0 < weight_sum i.weights (get_or s.domains c 0)
   unfolding sighted notes_of
   cell-weight {c} q = valid-weight i.weights (get_or (notes_of i s).counts c 0) (get_or s.domains c 0) (sight-counts (notes_of i s) _ (cell-sight q)).1
 
@@ -313,22 +313,22 @@ module _ (i : Given) (words : List ℕ) (used : ℕ) (s : State Beside) {n m : �
     unfolding turn
     turn-sight k = rw (whole, k)
 
-    pub turn-still : o ≡ Nothing → {end : ℕ} → end ≡ cond (decided s.domains) 0 1 → Turn.over (ended end used s.domains) ≡ turn i words used s
+    pub turn-still : o ≡ None → {end : ℕ} → end ≡ cond (decided s.domains) 0 1 → Turn.over (ended end used s.domains) ≡ turn i words used s
     unfolding seen still sight_of
     turn-still q d = rw d (turn-sight (sym observed-sight ∙ ap sight_of q))
 
-    pub turn-paused : {c : ℕ} {f : Float} → o ≡ Cell c f → length words ≤ used → Turn.over (ended 2 used s.domains) ≡ turn i words used s
+    pub turn-paused : {c : ℕ} {f : Float} → o ≡ Some (sight c f) → length words ≤ used → Turn.over (ended 2 used s.domains) ≡ turn i words used s
     unfolding seen drawn draw
     turn-paused q h = (rw (le-ltb used (length words) h) at (turn-sight (cell-sight q)))
 
-    turn-chosen : {c : ℕ} {f : Float} {s' : State Beside} → o ≡ Cell c f → used < length words
+    turn-chosen : {c : ℕ} {f : Float} {s' : State Beside} → o ≡ Some (sight c f) → used < length words
         → s' ≡ chosen i c (taken i.weights (get_or s.domains c 0) (get_or words used 0 % weight_sum i.weights (get_or s.domains c 0))) s
         → Turn.on (used + 1) s' ≡ turn i words used s
     unfolding seen drawn draw
     turn-chosen q h k = ap (Turn.on (used + 1)) k ∙ (rw (lt-ltb used (length words) h) at (turn-sight (cell-sight q)))
 
     -- from a state that is the same
-    pub turn-from : {s₁ : State Beside} → s₁ ≡ s → {c : ℕ} {f : Float} {s' : State Beside} → o ≡ Cell c f → used < length words
+    pub turn-from : {s₁ : State Beside} → s₁ ≡ s → {c : ℕ} {f : Float} {s' : State Beside} → o ≡ Some (sight c f) → used < length words
         → s' ≡ chosen i c (taken i.weights (get_or s₁.domains c 0) (get_or words used 0 % weight_sum i.weights (get_or s₁.domains c 0))) s₁
         → Turn.on (used + 1) s' ≡ turn i words used s
     turn-from e {c} q h k =

@@ -13,9 +13,9 @@ use Rattle.consistency.specs.Domains.{possible}
 use Rattle.consistency.specs.Worklist.{State}
 use Rattle.consistency.specs.Start.{others}
 use Rattle.notes.specs.Beside.{Beside}
-use Rattle.choice.specs.declared.inner.Observed.{Observed}
-use Rattle.choice.specs.declared.inner.Observed.TheVariants.{Cell, Nothing}
-use Rattle.choice.specs.Observer.{Notes, counts_at, observe, Sight, sight_of}
+use Rattle.std.specs.Prelude.{Some, None}
+use Rattle.choice.specs.declared.inner.Sight.{Sight}
+use Rattle.choice.specs.Observer.{Notes, counts_at, observe, sight_of, Observed, sight}
 use Rattle.choice.specs.Choice.{Draw, draw, taken}
 use Rattle.course.specs.Run.{Given, reduced_by, notes_of, sighted, Ended, ended, decided, still, chosen, Turn, drawn, seen, turn, collapse}
 use Rattle.course.specs.Course.{other_than, drawn_off, seen_off, turned_off}
@@ -35,19 +35,19 @@ module _ (v : Notes) where
   unfolding sight_of
   sight-counts x = go (observe v) (λ c e is. let h = observed-seen v is in (h.inside, h.counts))
     where
-      go : (o : Observed) → ((c : ℕ) (e : Float) → o ≡ Cell c e → (c < length v.domains) × (counts_at v c ≡ true)) → sight_of o ≡ some x
+      go : (o : Observed) → ((c : ℕ) (e : Float) → o ≡ Some (sight c e) → (c < length v.domains) × (counts_at v c ≡ true)) → sight_of o ≡ some x
           → (x.cell < length v.domains) × (counts_at v x.cell ≡ true)
-      go (Cell c e) f q = let z : c ≡ x.cell = ap (λ (y : Sight). y.cell) (some-injective (record { cell = c; entropy = e }) x q) in rw (← z) (f c e refl)
-      go Nothing f q = absurd (none-ne-some x q)
+      go (Some y) f q = let z : y.cell ≡ x.cell = ap (λ (z : Sight). z.cell) (some-injective y x q) in rw (← z) (f y.cell y.entropy refl)
+      go None f q = absurd (none-ne-some x q)
 
   -- where none is named no note counts
   pub sight_none : sight_of (observe v) ≡ none → (c : ℕ) → c < length v.domains → counts_at v c ≡ false
   unfolding sight_of
   sight_none = go (observe v) (λ is. nothing-counts v is)
     where
-      go : (o : Observed) → (o ≡ Nothing → (c : ℕ) → c < length v.domains → counts_at v c ≡ false) → sight_of o ≡ none → (c : ℕ) → c < length v.domains → counts_at v c ≡ false
-      go (Cell c e) f q = absurd (none-ne-some (record { cell = c; entropy = e }) (sym q))
-      go Nothing f q = f refl
+      go : (o : Observed) → (o ≡ None → (c : ℕ) → c < length v.domains → counts_at v c ≡ false) → sight_of o ≡ none → (c : ℕ) → c < length v.domains → counts_at v c ≡ false
+      go (Some y) f q = absurd (none-ne-some y (sym q))
+      go None f q = f refl
 
 -- ---- what a turn does
 

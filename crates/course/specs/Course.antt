@@ -13,7 +13,8 @@ use Rattle.consistency.specs.Start.{others}
 use Rattle.consistency.specs.Parts.{removed_all}
 use Rattle.notes.specs.Beside.{Beside}
 use Rattle.forbids.specs.declared.Forbid.{Forbid}
-use Rattle.choice.specs.Observer.{Sight, valid, note_at}
+use Rattle.choice.specs.declared.inner.Sight.{Sight}
+use Rattle.choice.specs.Observer.{valid, note_at}
 use Rattle.choice.specs.Choice.{Draw, draw, taken}
 use Rattle.forbids.specs.Forbids.{Placed}
 use Rattle.course.specs.Run.{Given, begun, asked, laid_all, notes_of, sighted, Ended, Turn, turn}

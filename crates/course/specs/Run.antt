@@ -16,7 +16,8 @@ use Rattle.consistency.specs.Worklist.{Removal, removal, State, forbids, propaga
 use Rattle.consistency.specs.Start.{start, others}
 use Rattle.notes.specs.Beside.{Beside, beside, lessened, kept, unmarked}
 use Rattle.forbids.specs.declared.Forbid.{Forbid}
-use Rattle.choice.specs.Observer.{Notes, notes_in, observe, Sight, sight_of}
+use Rattle.choice.specs.declared.inner.Sight.{Sight}
+use Rattle.choice.specs.Observer.{Notes, notes_in, observe, sight_of}
 use Rattle.choice.specs.Choice.{Draw, draw, taken}
 
 -- what a run is given, but for its forbids and its words

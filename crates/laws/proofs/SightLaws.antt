@@ -12,9 +12,9 @@ use Rattle.order.specs.Numbers.{Numbers}
 use Rattle.grid.specs.Grid.{cells}
 use Rattle.consistency.specs.Worklist.{State}
 use Rattle.notes.specs.Beside.{Beside}
-use Rattle.choice.specs.declared.inner.Observed.{Observed}
-use Rattle.choice.specs.declared.inner.Observed.TheVariants.{Cell, Nothing}
-use Rattle.choice.specs.Observer.{entropy_at, counts_at, observe, Sight, sight_of}
+use Rattle.std.specs.Prelude.{Some, None}
+use Rattle.choice.specs.declared.inner.Sight.{Sight}
+use Rattle.choice.specs.Observer.{entropy_at, counts_at, observe, sight_of, Observed, sight}
 use Rattle.forbids.specs.declared.Forbid.{Forbid}
 use Rattle.course.specs.Run.{Given, notes_of, sighted}
 use Rattle.course.specs.Course.{Lawful, Reached}
@@ -41,7 +41,7 @@ module _ (i : Given) (fs : List Forbid) (L : Lawful i fs) where
     unfolding notes_of
     noted-cells = (reached-stands i fs L r).settled.safe.fit.sized
 
-    least : (c : ℕ) (e : Float) → observe (notes_of i s) ≡ Cell c e → (j : ℕ) → j < cells i.grid → Yields (notes_of i s) c j
+    least : (c : ℕ) (e : Float) → observe (notes_of i s) ≡ Some (sight c e) → (j : ℕ) → j < cells i.grid → Yields (notes_of i s) c j
     least c e is j h = observed-least (notes_of i s) is noted-numbers noted-each j (omega (arith, h, noted-cells))
 
     -- what a turn observes: a cell whose note counts, with its own entropy, to which every other cell gives way
@@ -51,14 +51,14 @@ module _ (i : Given) (fs : List Forbid) (L : Lawful i fs) where
     sighted-least x = go (observe (notes_of i s)) (λ c e is. (observed-seen (notes_of i s) is, least c e is))
       where
         go : (o : Observed)
-            → ((c : ℕ) (e : Float) → o ≡ Cell c e → Seen (notes_of i s) c e × ((j : ℕ) → j < cells i.grid → Yields (notes_of i s) c j))
+            → ((c : ℕ) (e : Float) → o ≡ Some (sight c e) → Seen (notes_of i s) c e × ((j : ℕ) → j < cells i.grid → Yields (notes_of i s) c j))
             → sight_of o ≡ some x → Seen (notes_of i s) x.cell x.entropy × ((j : ℕ) → j < cells i.grid → Yields (notes_of i s) x.cell j)
-        go (Cell c e) f q =
-            let same = some-injective (record { cell = c; entropy = e }) x q in
-            let at : c ≡ x.cell = ap (λ (y : Sight). y.cell) same in
-            let of : e ≡ x.entropy = ap (λ (y : Sight). y.entropy) same in
-            rw (← at, ← of) (f c e refl)
-        go Nothing f q = absurd (none-ne-some x q)
+        go (Some y) f q =
+            let same = some-injective y x q in
+            let at : y.cell ≡ x.cell = ap (λ (z : Sight). z.cell) same in
+            let of : y.entropy ≡ x.entropy = ap (λ (z : Sight). z.entropy) same in
+            rw (← at, ← of) (f y.cell y.entropy refl)
+        go None f q = absurd (none-ne-some x q)
 
     -- and a cell to which every other gives way is what it observes
     pub least-sighted : (c : ℕ) → c < cells i.grid → counts_at (notes_of i s) c ≡ true → ((j : ℕ) → j < cells i.grid → Yields (notes_of i s) c j)

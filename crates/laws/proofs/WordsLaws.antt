@@ -14,7 +14,7 @@ use Rattle.consistency.specs.Domains.{Sub}
 use Rattle.consistency.specs.Worklist.{State}
 use Rattle.notes.specs.Beside.{Beside}
 use Rattle.forbids.specs.declared.Forbid.{Forbid}
-use Rattle.choice.specs.Observer.{Sight}
+use Rattle.choice.specs.declared.inner.Sight.{Sight}
 use Rattle.choice.specs.Choice.{Draw, draw}
 use Rattle.course.specs.Run.{Given, sighted, notes_of, Ended, ended, Turn, drawn, seen, turn, collapse, run_of}
 use Rattle.course.specs.Course.{Lawful, Reached, forbade, chose, Final}
