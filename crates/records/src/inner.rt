@@ -7,13 +7,6 @@ ghost use Rattle.records.specs.Laying.{pen, laid};
 
 // ---- reading
 
-// A byte as an index.
-pub fn wide(x: u8) -> usize
-    ensures { (result ≡ x) × (result < 256) }
-{
-    x as usize
-}
-
 // The number of the two bytes from `at` on.
 pub fn u16_at(bytes: &[u8], at: usize) -> usize
     requires { at + 2 ≤ length bytes.now }
