@@ -39,11 +39,9 @@ fn lay_each_list(count: usize, offsets: &[u32], ids: &[u8], out: &mut [u8], at: 
     ensures { pen out.new result ≡ laid (list_bytes (lists_of (table count offsets.now ids.now))) (pen out.old at) }
 {
     let mut place = at;
-    let mut k = 0;
-    while k < 4 * count {
+    for k in 0..4 * count {
         let list = adjacency::inner::list_of(count, offsets, ids, k / 4, k % 4);
         place = lay_list(list, out, place);
-        k += 1;
     }
     place
 }
@@ -59,40 +57,20 @@ fn lay_lists(count: usize, offsets: &[u32], ids: &[u8], out: &mut [u8], at: usiz
 
 // ---- grid and forbids
 
-// Three numbers.
-fn lay_three(a: usize, b: usize, c: usize, out: &mut [u8], at: usize) -> usize
-    requires { (a < 65536) × (b < 65536) × (c < 65536) × (at + 6 ≤ length out.old) }
-    ensures { pen out.new result ≡ laid (u16s (a ∷ b ∷ c ∷ [])) (pen out.old at) }
-{
-    let place = lay_u16(a, out, at);
-    let place = lay_u16(b, out, place);
-    lay_u16(c, out, place)
-}
-
 // The third record: width, height and mode.
 fn lay_grid(width: usize, height: usize, mode: usize, out: &mut [u8], at: usize) -> usize
     requires { (width < 65536) × (height < 65536) × (mode < 65536) × (at + 12 ≤ length out.old) }
     ensures { pen out.new result ≡ laid (record_of 3 (u16s (width ∷ height ∷ mode ∷ []))) (pen out.old at) }
 {
     let place = lay_head(3, 6, out, at);
-    lay_three(width, height, mode, out, place)
-}
-
-// A number as an index.
-fn plain(x: u32) -> usize
-    ensures { result ≡ x }
-{
-    x as usize
+    lay_numbers(&[width as u32, height as u32, mode as u32], out, place)
 }
 
 // Whether a forbid keeps, as it is stored.
-fn kind_of(keep: u32) -> usize
+fn kind_of(keep: u32) -> u32
     ensures { result ≡ kind_of keep }
 {
-    if keep == 0 {
-        return 0;
-    }
-    1
+    if keep == 0 { 0 } else { 1 }
 }
 
 // All forbids in order.
@@ -101,13 +79,9 @@ fn lay_each_forbid(forbids: &[u32], out: &mut [u8], at: usize) -> usize
     ensures { pen out.new result ≡ laid (u16s (stored forbids.now)) (pen out.old at) }
 {
     let mut place = at;
-    let mut i = 0;
-    while i < forbids.len() / 3 {
-        let cell = plain(forbids[3 * i]);
-        let pattern = plain(forbids[3 * i + 1]);
-        let kind = kind_of(forbids[3 * i + 2]);
-        place = lay_three(cell, pattern, kind, out, place);
-        i += 1;
+    for forbid in forbids.chunks_exact(3) {
+        let kind = kind_of(forbid[2]);
+        place = lay_numbers(&[forbid[0], forbid[1], kind], out, place);
     }
     place
 }
