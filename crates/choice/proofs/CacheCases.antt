@@ -5,7 +5,7 @@ use mathlib.Core.Path.{◌≡◌, refl}
 use Prim.Native.Nat.{ℕ}
 use lib.Ieee.{Float, binary32, of_bits, lt, eq}
 use lib.ListN.{set, replicate}
-use Rattle.std.specs.Prelude.{Some, None}
+use Rattle.std.specs.Prelude.{Some}
 use Rattle.choice.specs.Observer.{Notes, notes, observe, sight}
 use Rattle.choice.specs.Cache.{codes}
 

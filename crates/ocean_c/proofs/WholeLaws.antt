@@ -1,7 +1,7 @@
 -- A number tells its answer whole: two answers with one number are the same. Follows docs/RULES.md, "Refusals". Assumes nothing.
 use mathlib.Core.Bool.{Bool, true, false}
 use mathlib.Core.List.{List}
-use mathlib.Core.Option.{Option, none, some}
+use Rattle.std.specs.Prelude.{Option, None, Some}
 use mathlib.Core.Path.{◌≡◌, refl, sym, ap, ◌∙◌}
 use Prim.Native.Nat.{ℕ, ◌≤◌, ◌<◌}
 use native.Mathlib.Nat.{le_antisymm, le_of_suc-le-suc, lt_of_not-le}
@@ -86,35 +86,35 @@ coded-injective (answer x) (answer y) h h' e =
 pub found_coded-injective : (a b : Asked (Option ℕ)) → Sound Any a → Sound Any b → found_coded a ≡ found_coded b → a ≡ b
 unfolding found_coded Sound
 found_coded-injective (refused n) (refused k) h h' e = ap refused e
-found_coded-injective (refused n) (answer (some v)) h h' e = absurd (cased-apart n 0 v h e)
-found_coded-injective (refused n) (answer none) h h' e = absurd (cased-apart n 1 0 h e)
-found_coded-injective (answer (some v)) (refused k) h h' e = absurd (cased-apart k 0 v h' (sym e))
-found_coded-injective (answer none) (refused k) h h' e = absurd (cased-apart k 1 0 h' (sym e))
-found_coded-injective (answer (some v)) (answer (some w)) h h' e = ap (λ (x : ℕ). answer (some x)) (cased-injective 0 0 v w (omega arith) (omega arith) e).1
-found_coded-injective (answer (some v)) (answer none) h h' e = absurd (omega (arith, (cased-injective 0 1 v 0 (omega arith) (omega arith) e).0))
-found_coded-injective (answer none) (answer (some w)) h h' e = absurd (omega (arith, (cased-injective 1 0 0 w (omega arith) (omega arith) e).0))
-found_coded-injective (answer none) (answer none) h h' e = refl
+found_coded-injective (refused n) (answer (Some v)) h h' e = absurd (cased-apart n 0 v h e)
+found_coded-injective (refused n) (answer None) h h' e = absurd (cased-apart n 1 0 h e)
+found_coded-injective (answer (Some v)) (refused k) h h' e = absurd (cased-apart k 0 v h' (sym e))
+found_coded-injective (answer None) (refused k) h h' e = absurd (cased-apart k 1 0 h' (sym e))
+found_coded-injective (answer (Some v)) (answer (Some w)) h h' e = ap (λ (x : ℕ). answer (Some x)) (cased-injective 0 0 v w (omega arith) (omega arith) e).1
+found_coded-injective (answer (Some v)) (answer None) h h' e = absurd (omega (arith, (cased-injective 0 1 v 0 (omega arith) (omega arith) e).0))
+found_coded-injective (answer None) (answer (Some w)) h h' e = absurd (omega (arith, (cased-injective 1 0 0 w (omega arith) (omega arith) e).0))
+found_coded-injective (answer None) (answer None) h h' e = refl
 
 -- binary32 holds the entropy that is told, as it holds every f32
 abbrev pub Held : Option Float → Type 0
-Held (some x) = T (fits binary32 x)
-Held none = Unit {0}
+Held (Some x) = T (fits binary32 x)
+Held None = Unit {0}
 
 pub entropy_coded-injective : (a b : Asked (Option Float)) → Sound Held a → Sound Held b → entropy_coded a ≡ entropy_coded b → a ≡ b
 unfolding entropy_coded Sound
 entropy_coded-injective (refused n) (refused k) h h' e = ap refused e
-entropy_coded-injective (refused n) (answer (some x)) h h' e = absurd (cased-apart n 0 (to_bits binary32 x) h e)
-entropy_coded-injective (refused n) (answer none) h h' e = absurd (cased-apart n 1 0 h e)
-entropy_coded-injective (answer (some x)) (refused k) h h' e = absurd (cased-apart k 0 (to_bits binary32 x) h' (sym e))
-entropy_coded-injective (answer none) (refused k) h h' e = absurd (cased-apart k 1 0 h' (sym e))
-entropy_coded-injective (answer (some x)) (answer (some y)) h h' e =
+entropy_coded-injective (refused n) (answer (Some x)) h h' e = absurd (cased-apart n 0 (to_bits binary32 x) h e)
+entropy_coded-injective (refused n) (answer None) h h' e = absurd (cased-apart n 1 0 h e)
+entropy_coded-injective (answer (Some x)) (refused k) h h' e = absurd (cased-apart k 0 (to_bits binary32 x) h' (sym e))
+entropy_coded-injective (answer None) (refused k) h h' e = absurd (cased-apart k 1 0 h' (sym e))
+entropy_coded-injective (answer (Some x)) (answer (Some y)) h h' e =
     let bits = (cased-injective 0 0 (to_bits binary32 x) (to_bits binary32 y) (omega arith) (omega arith) e).1 in
-    ap (λ (z : Float). answer (some z)) (sym (of_bits-to_bits binary32 x h) ∙ ap (of_bits binary32) bits ∙ of_bits-to_bits binary32 y h')
-entropy_coded-injective (answer (some x)) (answer none) h h' e =
+    ap (λ (z : Float). answer (Some z)) (sym (of_bits-to_bits binary32 x h) ∙ ap (of_bits binary32) bits ∙ of_bits-to_bits binary32 y h')
+entropy_coded-injective (answer (Some x)) (answer None) h h' e =
     absurd (omega (arith, (cased-injective 0 1 (to_bits binary32 x) 0 (omega arith) (omega arith) e).0))
-entropy_coded-injective (answer none) (answer (some y)) h h' e =
+entropy_coded-injective (answer None) (answer (Some y)) h h' e =
     absurd (omega (arith, (cased-injective 1 0 0 (to_bits binary32 y) (omega arith) (omega arith) e).0))
-entropy_coded-injective (answer none) (answer none) h h' e = refl
+entropy_coded-injective (answer None) (answer None) h h' e = refl
 
 pub settled_coded-injective : (a b : Asked Bool) → Sound Any a → Sound Any b → settled_coded a ≡ settled_coded b → a ≡ b
 unfolding settled_coded Sound

@@ -6,18 +6,25 @@ ghost use Rattle.grid.specs.Grid.{grid};
 ghost use Rattle.sheet.specs.Called.{scalar_tests, content_tests, read_misfit, write_misfit};
 
 use crate::Measures;
+use adjacency::inner::Table;
+use grid::Grid;
 
 // The number of the first refusal of count and grid, 0 for none.
 pub(crate) fn judge_scalars(count: usize, width: usize, height: usize, mode: usize) -> u32
     ensures { result ≡ first_of (scalar_tests count (grid width height mode)) }
 {
+    let grid = Grid {
+        width,
+        height,
+        mode,
+    };
     if adjacency::inner::bad_count(count) {
         return 3;
     }
-    if grid::inner::bad_size(width, height) {
+    if grid.bad_size() {
         return 1;
     }
-    if grid::inner::bad_wrap(mode) {
+    if grid.bad_wrap() {
         return 2;
     }
     0
@@ -40,10 +47,15 @@ pub(crate) fn judge_content(
     if adjacency::inner::over_weight(weights) {
         return 4;
     }
-    if adjacency::inner::bad_list(count, offsets, ids) {
+    let table = Table {
+        count,
+        offsets,
+        ids,
+    };
+    if table.bad_list() {
         return 6;
     }
-    if adjacency::inner::disagrees(count, offsets, ids) {
+    if table.disagrees() {
         return 7;
     }
     forbids::inner::judge_all(forbids, count, width, height)
@@ -64,7 +76,12 @@ pub(crate) fn write_misfit(
     if weights.len() != count {
         return true;
     }
-    if adjacency::inner::bad_offsets(count, offsets) {
+    let table = Table {
+        count,
+        offsets,
+        ids,
+    };
+    if table.bad_offsets() {
         return true;
     }
     let records = forbids::inner::records_in(forbids);
