@@ -26,12 +26,7 @@ fn part_of(count: usize, offsets: &[u32], ids: &[u8], pattern: usize, direction:
     requires { list_refusal (table count offsets.now ids.now) pattern direction ≡ 0 }
     ensures { result ≡ list_coded (table count offsets.now ids.now) pattern direction }
 {
-    let table = Table {
-        count,
-        offsets,
-        ids,
-    };
-    let list = table.list_of(pattern, direction);
+    let list = adjacency::inner::list_of(count, offsets, ids, pattern, direction);
     let start = offsets[4 * pattern + direction];
     256 * (list.len() as u64) + 4294967296 * (start as u64)
 }

@@ -6,25 +6,18 @@ ghost use Rattle.grid.specs.Grid.{grid};
 ghost use Rattle.sheet.specs.Called.{scalar_tests, content_tests, read_misfit, write_misfit};
 
 use crate::Measures;
-use adjacency::inner::Table;
-use grid::Grid;
 
 // The number of the first refusal of count and grid, 0 for none.
 pub(crate) fn judge_scalars(count: usize, width: usize, height: usize, mode: usize) -> u32
     ensures { result ≡ first_of (scalar_tests count (grid width height mode)) }
 {
-    let grid = Grid {
-        width,
-        height,
-        mode,
-    };
     if adjacency::inner::bad_count(count) {
         return 3;
     }
-    if grid.bad_size() {
+    if grid::inner::bad_size(width, height) {
         return 1;
     }
-    if grid.bad_wrap() {
+    if grid::inner::bad_wrap(mode) {
         return 2;
     }
     0
@@ -47,15 +40,10 @@ pub(crate) fn judge_content(
     if adjacency::inner::over_weight(weights) {
         return 4;
     }
-    let table = Table {
-        count,
-        offsets,
-        ids,
-    };
-    if table.bad_list() {
+    if adjacency::inner::bad_list(count, offsets, ids) {
         return 6;
     }
-    if table.disagrees() {
+    if adjacency::inner::disagrees(count, offsets, ids) {
         return 7;
     }
     forbids::inner::judge_all(forbids, count, width, height)
@@ -76,12 +64,7 @@ pub(crate) fn write_misfit(
     if weights.len() != count {
         return true;
     }
-    let table = Table {
-        count,
-        offsets,
-        ids,
-    };
-    if table.bad_offsets() {
+    if adjacency::inner::bad_offsets(count, offsets) {
         return true;
     }
     let records = forbids::inner::records_in(forbids);

@@ -1,23 +1,24 @@
 // The searches, each for the first of its kind. Follows docs/RULES.md, "Refusals" and "Programs".
 ghost use Rattle.std.specs.Prelude.{◌≡◌, ℕ, ◌+◌, ◌*◌, ◌/◌, ◌<◌, length};
+ghost use Rattle.adjacency.specs.Tables.{table};
 ghost use Rattle.adjacency.specs.Accepted.{Laid, Listed};
 ghost use Rattle.grid.specs.Grid.{grid};
 ghost use Rattle.faults.specs.Places.{first_failing, list_fits, list_agrees, list_place, unanswered, pair_place, forbid_fits, forbid_place, place_at};
 
 use crate::inner::Place;
-use adjacency::inner::{Table, in_list, list_ok};
+use adjacency::inner::{agrees_at, in_list, list_of, list_ok};
 use forbids::inner::judge;
 
 // ---- lists
 
 // The first list that is not as it must be, 4P where all are.
-fn bad_list(table: &Table) -> usize
-    requires { Laid table.now }
-    ensures { result ≡ first_failing (list_fits table.now) 0 (4 * table.now.count) }
+fn bad_list(count: usize, offsets: &[u32], ids: &[u8]) -> usize
+    requires { Laid (table count offsets.now ids.now) }
+    ensures { result ≡ first_failing (list_fits (table count offsets.now ids.now)) 0 (4 * count) }
 {
     let mut k = 0;
-    while k < 4 * table.count {
-        if !list_ok(table.count, table.list_of(k / 4, k % 4)) {
+    while k < 4 * count {
+        if !list_ok(count, list_of(count, offsets, ids, k / 4, k % 4)) {
             return k;
         }
         k += 1;
@@ -26,12 +27,12 @@ fn bad_list(table: &Table) -> usize
 }
 
 // That list, by its pattern and its direction.
-fn list_place(table: &Table) -> Place
-    requires { Laid table.now }
-    ensures { result ≡ list_place table.now }
+fn list_place(count: usize, offsets: &[u32], ids: &[u8]) -> Place
+    requires { Laid (table count offsets.now ids.now) }
+    ensures { result ≡ list_place (table count offsets.now ids.now) }
 {
-    let k = bad_list(table);
-    if k < 4 * table.count {
+    let k = bad_list(count, offsets, ids);
+    if k < 4 * count {
         return Place::List(k / 4, k % 4);
     }
     Place::Nowhere
@@ -47,13 +48,13 @@ fn wide(x: u8) -> usize
 }
 
 // The first list that disagrees, 4P where none does.
-fn one_sided(table: &Table) -> usize
-    requires { Listed table.now }
-    ensures { result ≡ first_failing (list_agrees table.now) 0 (4 * table.now.count) }
+fn one_sided(count: usize, offsets: &[u32], ids: &[u8]) -> usize
+    requires { Listed (table count offsets.now ids.now) }
+    ensures { result ≡ first_failing (list_agrees (table count offsets.now ids.now)) 0 (4 * count) }
 {
     let mut k = 0;
-    while k < 4 * table.count {
-        if !table.agrees_at(k / 4, k % 4) {
+    while k < 4 * count {
+        if !agrees_at(count, offsets, ids, k / 4, k % 4) {
             return k;
         }
         k += 1;
@@ -62,16 +63,16 @@ fn one_sided(table: &Table) -> usize
 }
 
 // The first id of p's list for d whose own list for the opposite lacks p; 0 where there is none.
-fn unanswered(table: &Table, p: usize, d: usize) -> usize
-    requires { Listed table.now × (p < table.now.count) × (d < 4) }
-    ensures { result ≡ unanswered table.now p d }
+fn unanswered(count: usize, offsets: &[u32], ids: &[u8], p: usize, d: usize) -> usize
+    requires { Listed (table count offsets.now ids.now) × (p < count) × (d < 4) }
+    ensures { result ≡ unanswered (table count offsets.now ids.now) p d }
 {
-    let list = table.list_of(p, d);
+    let list = list_of(count, offsets, ids, p, d);
     let back = directions::inner::opposite_of(d);
     let mut i = 0;
     while i < list.len() {
         let q = wide(list[i]);
-        if !in_list(p, table.list_of(q, back)) {
+        if !in_list(p, list_of(count, offsets, ids, q, back)) {
             return q;
         }
         i += 1;
@@ -80,16 +81,16 @@ fn unanswered(table: &Table, p: usize, d: usize) -> usize
 }
 
 // The pattern, the direction and the id.
-fn pair_place(table: &Table) -> Place
-    requires { Laid table.now }
-    ensures { result ≡ pair_place table.now }
+fn pair_place(count: usize, offsets: &[u32], ids: &[u8]) -> Place
+    requires { Laid (table count offsets.now ids.now) }
+    ensures { result ≡ pair_place (table count offsets.now ids.now) }
 {
-    if table.bad_list() {
+    if adjacency::inner::bad_list(count, offsets, ids) {
         return Place::Nowhere;
     }
-    let k = one_sided(table);
-    if k < 4 * table.count {
-        let q = unanswered(table, k / 4, k % 4);
+    let k = one_sided(count, offsets, ids);
+    if k < 4 * count {
+        let q = unanswered(count, offsets, ids, k / 4, k % 4);
         return Place::Pair(k / 4, k % 4, q);
     }
     Place::Nowhere
@@ -138,19 +139,21 @@ fn forbid_place(forbids: &[u32], count: usize, width: usize, height: usize) -> P
 
 pub(crate) fn place_at(
     number: u32,
-    table: &Table,
+    count: usize,
+    offsets: &[u32],
+    ids: &[u8],
     width: usize,
     height: usize,
     forbids: &[u32],
 ) -> Place
-    requires { Laid table.now }
-    ensures { (mode : ℕ) → result ≡ place_at number table.now (grid width height mode) forbids.now }
+    requires { Laid (table count offsets.now ids.now) }
+    ensures { (mode : ℕ) → result ≡ place_at number (table count offsets.now ids.now) (grid width height mode) forbids.now }
 {
     if number == 6 {
-        return list_place(table);
+        return list_place(count, offsets, ids);
     }
     if number == 7 {
-        return pair_place(table);
+        return pair_place(count, offsets, ids);
     }
     if number < 8 {
         return Place::Nowhere;
@@ -158,5 +161,5 @@ pub(crate) fn place_at(
     if 9 < number {
         return Place::Nowhere;
     }
-    forbid_place(forbids, table.count, width, height)
+    forbid_place(forbids, count, width, height)
 }
