@@ -100,7 +100,5 @@ pub fn write(
         return Err(Refusal::BadLength);
     }
     check::judge_content(&table, weights, grid, forbids)?;
-    Ok(layout::inner::writing::lay_sheet(
-        &table, weights, grid, forbids, out,
-    ))
+    Ok(layout::inner::writing::lay_sheet(&table, weights, grid, forbids, out))
 }
