@@ -5,7 +5,7 @@ ghost use Rattle.sheet.specs.Called.{measured};
 ghost use Rattle.faults.specs.Places.{sheet_place, place_in};
 
 use layout::inner::filling::fill;
-use sheet::{Measures, SizesAnswer};
+use sheet::Measures;
 
 mod search;
 
@@ -53,8 +53,8 @@ pub fn place_in(sheet: &[u8], number: u32) -> Place
     ensures { result ≡ place_in number sheet.now }
 {
     match sheet::sizes(sheet) {
-        SizesAnswer::Refused(_) => Place::Nowhere,
-        SizesAnswer::Sheet(m) => {
+        Err(_) => Place::Nowhere,
+        Ok(m) => {
             if 64 < m.count {
                 return Place::Nowhere;
             }

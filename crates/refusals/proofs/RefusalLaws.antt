@@ -1,6 +1,6 @@
 -- Laws of the first refusal that holds, and that a number names one refusal.
 -- Assumes nothing.
-use mathlib.Core.Bool.{Bool, true, false, cond}
+use mathlib.Core.Bool.{Bool, true, false, cond, true≢false}
 use mathlib.Core.List.{List, [], ◌∷◌, ◌++◌}
 use mathlib.Core.Path.{◌≡◌, refl, sym, ap, ◌∙◌}
 use Prim.Native.Nat.{ℕ, zero, suc, ◌-◌, ◌≤◌}
@@ -8,7 +8,7 @@ use native.Mathlib.Omega.{arith}
 use lib.Dec.{eqb}
 use lib.ListN.{get_or}
 use borrow.Author.Tests.{ne_eqb}
-use Rattle.std.specs.Prelude.{Result, Ok, Err}
+use Rattle.std.specs.Prelude.{Result, Ok, Err, is_err}
 use Rattle.refusals.specs.declared.Refusal.{Refusal}
 use Rattle.refusals.specs.declared.Refusal.TheVariants.{BadSize, BadWrap, BadCount, BadWeights, BadLength, BadList, Disagree, BadCell, BadPattern, BadSheet, BadDirection}
 use Rattle.refusals.specs.Refusals.{number, number_of, Test, first_of, refused, answer, unless, checked}
@@ -62,6 +62,17 @@ number_of-injective (Ok u) (Ok v) e = refl
 number_of-injective (Ok u) (Err s) e = absurd (number-positive s (sym e))
 number_of-injective (Err r) (Ok v) e = absurd (number-positive r e)
 number_of-injective (Err r) (Err s) e = ap Err (number-injective r s e)
+
+-- a check that is refused has a number, and one that is not has none
+pub refused-positive : (v : Result (Unit {0}) Refusal) → is_err v ≡ true → number_of v ≡ 0 → ⊥
+unfolding number_of
+refused-positive (Ok u) t z = true≢false (sym t)
+refused-positive (Err r) t z = number-positive r z
+
+pub passed_zero : (v : Result (Unit {0}) Refusal) → is_err v ≡ false → number_of v ≡ 0
+unfolding number_of
+passed_zero (Ok u) t = refl
+passed_zero (Err r) t = absurd (true≢false t)
 
 -- ---- the first that holds
 

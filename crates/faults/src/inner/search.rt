@@ -8,6 +8,7 @@ ghost use Rattle.faults.specs.Places.{first_failing, list_fits, list_agrees, lis
 use crate::inner::Place;
 use adjacency::inner::{agrees_at, in_list, list_of, list_ok};
 use forbids::inner::judge;
+use refusals::Refusal;
 
 // ---- lists
 
@@ -111,7 +112,7 @@ fn bad_forbid(forbids: &[u32], count: usize, width: usize, height: usize) -> usi
 {
     let mut i = 0;
     while i < forbids.len() / 3 {
-        if judge(forbids[3 * i], forbids[3 * i + 1], count, width, height) != 0 {
+        if judge(forbids[3 * i], forbids[3 * i + 1], count, width, height).is_err() {
             return i;
         }
         i += 1;
@@ -127,7 +128,7 @@ fn forbid_place(forbids: &[u32], count: usize, width: usize, height: usize) -> P
     if i < forbids.len() / 3 {
         let cell = forbids[3 * i];
         let pattern = forbids[3 * i + 1];
-        if judge(cell, pattern, count, width, height) == 8 {
+        if judge(cell, pattern, count, width, height) == Err(Refusal::BadCell) {
             return Place::Cell(i, plain(cell));
         }
         return Place::Pattern(i, plain(pattern));
