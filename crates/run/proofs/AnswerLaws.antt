@@ -2,7 +2,6 @@
 use mathlib.Core.List.{List, ◌∷◌, []}
 use mathlib.Core.Path.{◌≡◌, refl, sym, ap, ◌∙◌}
 use Prim.Native.Nat.{ℕ}
-use lib.ListN.{get_or}
 use Rattle.refusals.specs.Refusals.{Asked, refused, answer}
 use Rattle.forbids.specs.declared.Forbid.{Forbid}
 use Rattle.course.specs.Run.{Given}
@@ -10,22 +9,10 @@ use Rattle.course.specs.Called.{Memory, End, Outcome, outcome, called_of}
 use Rattle.std.specs.Prelude.{Result, Ok, Err}
 use Rattle.refusals.specs.declared.Refusal.{Refusal}
 use Rattle.collapse.specs.declared.Ending.{Ending}
-use Rattle.collapse.specs.declared.Ending.TheVariants.{Decided, Undecided, Paused, Contradiction}
 use Rattle.collapse.specs.declared.Stop.{Stop}
-use Rattle.collapse.specs.Endings.{end_number}
 use Rattle.run.specs.Answers.{answer_told}
 use Rattle.refusals.proofs.RefusalLaws.{named, named-number}
-
--- the end with a number
-ending : ℕ → Ending
-ending n = get_or (Decided ∷ Undecided ∷ Paused ∷ []) n Contradiction
-
-ending_number : (e : Ending) → ending (end_number e) ≡ e
-unfolding ending
-ending_number Decided = refl
-ending_number Undecided = refl
-ending_number Paused = refl
-ending_number Contradiction = refl
+use Rattle.collapse.proofs.EndingLaws.{ending, ending_number}
 
 -- the answer that tells so
 answered : Asked End → Result Stop Refusal

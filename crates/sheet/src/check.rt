@@ -1,29 +1,35 @@
 // When a sheet's numbers are refused: the scalars, the lengths that are lent, and the rest. Follows docs/RULES.md, "Refusals".
 ghost use Rattle.std.specs.Prelude.{◌≡◌, ◌+◌, ◌*◌, ◌≤◌, length};
-ghost use Rattle.refusals.specs.Refusals.{first_of};
+ghost use Rattle.refusals.specs.Refusals.{number_of, first_of};
 ghost use Rattle.adjacency.specs.Tables.{table};
 ghost use Rattle.grid.specs.Grid.{grid};
 ghost use Rattle.sheet.specs.Called.{scalar_tests, content_tests, read_misfit, write_misfit};
 
 use crate::Measures;
+use refusals::Refusal;
 
-// The number of the first refusal of count and grid, 0 for none.
-pub(crate) fn judge_scalars(count: usize, width: usize, height: usize, mode: usize) -> u32
-    ensures { result ≡ first_of (scalar_tests count (grid width height mode)) }
+// The first refusal of count and grid.
+pub(crate) fn judge_scalars(
+    count: usize,
+    width: usize,
+    height: usize,
+    mode: usize,
+) -> Result<(), Refusal>
+    ensures { number_of result ≡ first_of (scalar_tests count (grid width height mode)) }
 {
     if adjacency::inner::bad_count(count) {
-        return 3;
+        return Err(Refusal::BadCount);
     }
     if grid::inner::bad_size(width, height) {
-        return 1;
+        return Err(Refusal::BadSize);
     }
     if grid::inner::bad_wrap(mode) {
-        return 2;
+        return Err(Refusal::BadWrap);
     }
-    0
+    Ok(())
 }
 
-// The number of the first refusal of weights, lists and forbids, 0 for none.
+// The first refusal of weights, lists and forbids.
 pub(crate) fn judge_content(
     count: usize,
     weights: &[u32],
@@ -33,18 +39,18 @@ pub(crate) fn judge_content(
     height: usize,
     mode: usize,
     forbids: &[u32],
-) -> u32
+) -> Result<(), Refusal>
     requires { length offsets.now ≡ 4 * count + 1 }
-    ensures { result ≡ first_of (content_tests (table count offsets.now ids.now) weights.now (grid width height mode) forbids.now) }
+    ensures { number_of result ≡ first_of (content_tests (table count offsets.now ids.now) weights.now (grid width height mode) forbids.now) }
 {
     if adjacency::inner::over_weight(weights) {
-        return 4;
+        return Err(Refusal::BadWeights);
     }
     if adjacency::inner::bad_list(count, offsets, ids) {
-        return 6;
+        return Err(Refusal::BadList);
     }
     if adjacency::inner::disagrees(count, offsets, ids) {
-        return 7;
+        return Err(Refusal::Disagree);
     }
     forbids::inner::judge_all(forbids, count, width, height)
 }
