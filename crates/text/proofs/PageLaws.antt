@@ -11,7 +11,8 @@ use lib.ListN.{length, get_or, set, take, drop, replicate, length-set}
 use lib.Seq.{sets, sets-eq, take-suc}
 use borrow.Author.Tests.{ltb-true, lt-ltb, le-ltb}
 use Rattle.loops.specs.Loops.{each}
-use Rattle.text.specs.Pages.{Page, page, put_byte, put, texts}
+use Rattle.text.specs.Pages.{Page, page, put_byte, put, page_of, Puts, texts}
+use Rattle.text.specs.declared.Page as lent
 
 pub put_none : (p : Page) → put [] p ≡ p
 unfolding put each
@@ -25,6 +26,19 @@ pub put-append : (s t : List ℕ) (p : Page) → put (s ++ t) p ≡ put t (put s
 unfolding put each
 put-append [] t p = refl
 put-append (b ∷ s) t p = put-append s t (put_byte b p)
+
+-- no text leaves a page as it is
+pub stays : (p : lent.Page) → Puts [] p p
+stays p = record { same = refl; is = sym (put_none (page_of p)) }
+
+-- two texts that were put in a row
+infixl 4 ◌⨾◌
+
+pub ◌⨾◌ : {s t : List ℕ} {p q r : lent.Page} → Puts s p q → Puts t q r → Puts (s ++ t) p r
+◌⨾◌ {s} {t} {p} first next = record {
+  same = next.same ∙ first.same;
+  is = next.is ∙ ap (put t) first.is ∙ sym (put-append s t (page_of p));
+}
 
 -- ---- one byte
 
@@ -67,6 +81,12 @@ pub put-texts : (f : ℕ → List ℕ) (n : ℕ) (p : Page) → put (texts f 0 (
 put-texts f n p =
     let here : 0 + n ≡ n = omega arith in
     rw (add-one n) (rw here at (put-texts_from f 0 n p))
+
+-- the texts up to n, and then that of n
+pub one_more : (f : ℕ → List ℕ) (n m : ℕ) {t : List ℕ} {p q r : lent.Page} → m ≡ n + 1 → t ≡ f n → Puts (texts f 0 n) p q → Puts t q r → Puts (texts f 0 m) p r
+one_more f n m {t} {p} {q} {r} e at before last =
+    let whole : page_of r ≡ put (texts f 0 (n + 1)) (page_of p) = last.is ∙ ap (λ (l : List ℕ). put l (page_of q)) at ∙ ap (put (f n)) before.is ∙ sym (put-texts f n (page_of p)) in
+    record { same = last.same ∙ before.same; is = rw e whole }
 
 -- ---- what a page keeps
 
@@ -115,6 +135,6 @@ put-fits t l at h = stored t l at h ∙ ap (λ (bytes : List ℕ). page bytes (a
 
 pub ruleset one_byte = (put-room, put_full)
 
-pub ruleset in_a_row = (put_none, put-append)
+pub ruleset in_a_row = (put_none, put-cons, put-append)
 
 pub ruleset turns = (put_none, put_texts_none, put-take, put-replicate, put-texts)

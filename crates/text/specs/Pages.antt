@@ -32,9 +32,10 @@ put text p = each put_byte text p
 abbrev pub page_of : lent.Page → Page
 page_of p = page p.out.now p.at
 
--- the text was put on the page: it is the same one that is lent, with the text on it
-abbrev pub Puts : List ℕ → lent.Page → lent.Page → Type 0
-Puts text old new = (new.out.ghost_name ≡ old.out.ghost_name) × (page_of new ≡ put text (page_of old))
+-- a text was put on a page: the page is the one that was lent, with the text on it
+pub record Puts (text : List ℕ) (old new : lent.Page) : Type 0 where
+  pub same : new.out.ghost_name ≡ old.out.ghost_name
+  pub is : page_of new ≡ put text (page_of old)
 
 -- the texts of i, i + 1, .., as many as `count`, one after the other
 unfoldable pub texts : (ℕ → List ℕ) → ℕ → ℕ → List ℕ
