@@ -4,75 +4,62 @@ ghost use Rattle.bounded.specs.Laid.{Front};
 use crate::inner::files;
 use crate::inner::parts::{bytes_of, domains_of};
 use bounded::inner::{Ground, Laid, memory};
-use chart::Ocean;
+use chart::{Ocean, put_chart};
 use command::files::Names;
-use command::sentences::{TOO_LARGE, UNWRITTEN};
+use command::sentences::{TOO_LARGE, UNWRITTEN, put_fault, put_file_fault, put_refusal};
+use picture::{put_picture_head, put_picture_row, put_picture_tail};
 use std::io::Write;
 use std::rt::{Env, Files};
 use text::Page;
 
+// What is put on a page, printed; whether all of it was.
+fn print<P: Print, F: FnOnce(&mut Page)>(to: &P, put: F) -> bool
+    requires { F.IsAlwaysCallable put }
+{
+    let mut memory = transfer::large_buffer();
+    let mut page = Page::new(&mut memory, 0);
+    put(&mut page);
+    files::print(to, page.written())
+}
+
+// The same, written to a file.
+fn write<W: Write, F: FnOnce(&mut Page)>(to: &mut W, put: F) -> bool
+    requires { F.IsAlwaysCallable put }
+{
+    let mut memory = transfer::large_buffer();
+    let mut page = Page::new(&mut memory, 0);
+    put(&mut page);
+    files::write(to, page.written())
+}
+
 // Why a sheet was refused, and where it is wrong.
 pub(crate) fn refused<T: Print>(told: &T, sheet: &[u8], number: u32) {
-    let mut memory = transfer::buffer();
-    let mut page = Page::new(&mut memory, 0);
     let place = faults::inner::place_in(sheet, number);
-    command::sentences::put_refusal(&mut page, number as usize, place);
-    files::print(told, page.written());
+    print(told, |page| put_refusal(page, number as usize, place));
 }
 
 // What is wrong with what is asked.
 pub(crate) fn fault<T: Print>(told: &T, number: usize) {
-    let mut memory = transfer::buffer();
-    let mut page = Page::new(&mut memory, 0);
-    command::sentences::put_fault(&mut page, number);
-    files::print(told, page.written());
+    print(told, |page| put_fault(page, number));
 }
 
 // What is wrong with the file of this name.
 pub(crate) fn file_fault<T: Print>(told: &T, name: &[u8], number: usize) {
-    let mut memory = transfer::large_buffer();
-    let mut page = Page::new(&mut memory, 0);
-    command::sentences::put_file_fault(&mut page, name, number);
-    files::print(told, page.written());
+    print(told, |page| put_file_fault(page, name, number));
 }
 
 // The chart, on standard output.
 fn chart<R: Print, T: Print>(rt: &R, told: &T, ocean: &Ocean) {
-    let mut memory = transfer::large_buffer();
-    let mut page = Page::new(&mut memory, 0);
-    chart::put_chart(&mut page, ocean);
-    if !files::print(rt, page.written()) {
+    if !print(rt, |page| put_chart(page, ocean)) {
         file_fault(told, b"standard output", UNWRITTEN);
     }
 }
 
-// The parts of the picture, from the top down. Each answers whether it was written.
-fn picture_head<W: Write>(file: &mut W, ocean: &Ocean) -> bool {
-    let mut memory = transfer::large_buffer();
-    let mut page = Page::new(&mut memory, 0);
-    picture::put_picture_head(&mut page, ocean);
-    files::write(file, page.written())
-}
-
-fn picture_row<W: Write>(file: &mut W, ocean: &Ocean, y: usize) -> bool {
-    let mut memory = transfer::large_buffer();
-    let mut page = Page::new(&mut memory, 0);
-    picture::put_picture_row(&mut page, ocean, y);
-    files::write(file, page.written())
-}
-
-fn picture_tail<W: Write>(file: &mut W, ocean: &Ocean) -> bool {
-    let mut memory = transfer::large_buffer();
-    let mut page = Page::new(&mut memory, 0);
-    picture::put_picture_tail(&mut page, ocean);
-    files::write(file, page.written())
-}
-
-// The whole of it, up to the first part that was not written.
+// The parts of the picture, from the top down, up to the first that was not written; whether all were.
 fn picture_parts<W: Write>(file: &mut W, ocean: &Ocean) -> bool {
-    picture_head(file, ocean)
-        && (0..ocean.height).all(|y| picture_row(file, ocean, y))
-        && picture_tail(file, ocean)
+    write(file, |page| put_picture_head(page, ocean))
+        && (0..ocean.height).all(|y| write(file, |page| put_picture_row(page, ocean, y)))
+        && write(file, |page| put_picture_tail(page, ocean))
 }
 
 // The picture, in the file that an argument names; whether it was written to its end.
