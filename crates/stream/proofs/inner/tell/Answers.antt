@@ -21,7 +21,7 @@ lay_u16-requires c =
     let a = c.args in
     let (b, H) = c.requires.3 in
     let lay = c.lay in
-    (omega (arith, c.plain.ensures, room-refused b a.noise.now a.words.now lay.new.domains lay.new.out a.domains.now a.res.now lay.result (lay.ensures b H) c.in-Refused.number c.in-Refused.is), omega (arith, c.requires.2))
+    (omega (arith, room-refused b a.noise.now a.words.now lay.new.domains lay.new.out a.domains.now a.res.now lay.result (lay.ensures b H) c.in-Refused.number c.in-Refused.is), omega (arith, c.requires.2))
 
 pub returns-in-Ended : goal.returns-in-Ended
 returns-in-Ended c =
@@ -33,7 +33,7 @@ pub returns-in-Refused : goal.returns-in-Refused
 returns-in-Refused c =
     let a = c.args in
     let lay = c.lay in
-    let wrote = c.lay_u16 in record { by_index = λ b H. wrote-number wrote.new.out a.out.now wrote.result c.plain.result wrote.ensures (answer-refused b a.noise.now a.words.now lay.new.domains lay.new.out a.domains.now a.res.now lay.result (lay.ensures b H) c.in-Refused.number c.in-Refused.is) c.plain.ensures; upper_bound = wrote-short wrote.new.out a.out.now wrote.result c.plain.result wrote.ensures }
+    let wrote = c.lay_u16 in record { by_index = λ b H. wrote-number wrote.new.out a.out.now wrote.result c.in-Refused.number wrote.ensures (answer-refused b a.noise.now a.words.now lay.new.domains lay.new.out a.domains.now a.res.now lay.result (lay.ensures b H) c.in-Refused.number c.in-Refused.is) refl; upper_bound = wrote-short wrote.new.out a.out.now wrote.result c.in-Refused.number wrote.ensures }
 
 pub returns-in-TooLarge : goal.returns-in-TooLarge
 returns-in-TooLarge c =
