@@ -6,6 +6,7 @@ use Rattle.text.specs.Pages.{ascii, texts, line}
 use Rattle.text.specs.Numbers.{decimal, aligned, padded}
 use Rattle.practice.specs.Names.{name_of}
 use Rattle.chart.specs.Signs.{glyph, joins_x, joins_y, border}
+use Rattle.chart.specs.declared.inner.table.Ocean as shown
 use Rattle.chart.specs.Tallies.{tally, alike, holding}
 
 -- ---- the grid
@@ -93,3 +94,7 @@ grid_text wide width mode domains =
 
 unfoldable pub chart_text : ℕ → ℕ → Bool → ℕ → ℕ → List ℕ → List ℕ
 chart_text width mode named end words domains = grid_text (wideness domains) width mode domains ++ seam_text mode ++ end_text end words ++ legend_text named domains
+
+-- the chart of an ocean
+abbrev pub chart_of : shown.Ocean → List ℕ
+chart_of o = chart_text o.width o.mode o.named o.end o.words o.domains.now

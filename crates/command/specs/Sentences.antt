@@ -1,6 +1,6 @@
 -- The sentences that a person is told, each in one line that starts with `ocean: `. Follows docs/RULES.md, "Refusals" and "Programs".
 -- Assumes nothing.
-use Rattle.std.specs.Prelude.{cond, ◌||◌, List, [], ◌∷◌, ◌++◌, ℕ, ltb, eqb}
+use Rattle.std.specs.Prelude.{cond, ◌||◌, List, [], ◌∷◌, ◌++◌, ℕ, ltb, eqb, map}
 use Rattle.text.specs.Pages.{ascii, line}
 use Rattle.text.specs.Numbers.{decimal}
 use Rattle.faults.specs.declared.inner.Place.{Place}
@@ -32,9 +32,8 @@ unfoldable pub shown_byte : ℕ → ℕ
 shown_byte b = cond (ltb b 32 || eqb b 127) 63 b
 
 -- a name as it is shown, byte by byte
-unfoldable pub shown : List ℕ → List ℕ
-shown [] = []
-shown (b ∷ name) = shown_byte b ∷ shown name
+abbrev pub shown : List ℕ → List ℕ
+shown name = map shown_byte name
 
 -- what is wrong with the file of this name, by the fault's number
 unfoldable pub file_text : List ℕ → ℕ → List ℕ

@@ -1,2 +1,1 @@
-pub mod PictureLaws
 pub mod ColourLaws

@@ -8,7 +8,7 @@ use crate::input;
 use crate::input::Judged;
 use std::io::Read;
 use stream::inner::Next;
-use stream::inner::sentences::{CUT_OFF, UNREADABLE, UNWRITTEN, put_reason};
+use stream::inner::sentences::{Reason, put_reason};
 
 // How many bytes of a part were sent, or that the stream ends in it.
 #[derive(Clone, Copy)]
@@ -18,9 +18,9 @@ enum Part {
 }
 
 // Says why no more is answered, and answers that there is no more.
-fn say<T: Print>(told: &T, reason: usize) -> bool {
+fn say<T: Print>(told: &T, reason: Reason) -> bool {
     let mut page = transfer::buffer();
-    let n = put_reason(reason, &mut page);
+    let n = put_reason(reason as usize, &mut page);
     let _ = told.write_all(&page[..n]);
     false
 }
@@ -28,7 +28,7 @@ fn say<T: Print>(told: &T, reason: usize) -> bool {
 // The end of the stream; says so where it is none.
 fn ended<T: Print, I: Read>(told: &T, source: &mut I) -> bool {
     if !input::ended(source) {
-        return say(told, UNREADABLE);
+        return say(told, Reason::Unreadable);
     }
     false
 }
@@ -83,13 +83,13 @@ fn rest<O: Print, T: Print, I: Read>(
     requires { Rooms noise.old words.old × Front (take size sheet.now) formed }
 {
     let Part::Bytes(noises) = words_in(source, noise) else {
-        return say(told, CUT_OFF);
+        return say(told, Reason::CutOff);
     };
     let Part::Bytes(many) = words_in(source, words) else {
-        return say(told, CUT_OFF);
+        return say(told, Reason::CutOff);
     };
     if !answer(out, size, sheet, formed, noises, noise, many, words) {
-        return say(told, UNWRITTEN);
+        return say(told, Reason::Unwritten);
     }
     true
 }
@@ -107,11 +107,11 @@ fn next_in<O: Print, T: Print, I: Read>(
 {
     match input::number(source) {
         Next::End => ended(told, source),
-        Next::Short => say(told, CUT_OFF),
+        Next::Short => say(told, Reason::CutOff),
         Next::Number(n) => {
             let size = wide(n);
             let Judged::Formed(formed) = input::sheet(source, size, sheet) else {
-                return say(told, CUT_OFF);
+                return say(told, Reason::CutOff);
             };
             rest(out, told, source, size, sheet, formed, noise, words)
         }

@@ -1,10 +1,8 @@
--- `chart::table::put_empty` meets its contract: nothing where there is no such cell.
--- Assumes nothing.
-use Rattle.chart.proofs.ChartLaws.{empty_none, empty-put}
+use Rattle.chart.specs.Chart.{empty_text}
+use Rattle.text.proofs.PageLaws.{◌⨾◌}
+use borrow.Author.Tests.{ne_eqb}
 use Rattle.chart.proofs.inner.table.put_empty.Goals as goal
 
-pub returns-then-cells-eq0 : goal.returns-then-cells-eq0
-returns-then-cells-eq0 c = empty_none _ _ c.if-cells-eq0.true
-
-pub returns : goal.returns
-returns c = empty-put _ _ _ _ _ c.if-cells-eq0.false c.put_text-a.ensures c.put_padded-b.ensures c.put_text.ensures
+pub returns-then-cells-ne0 : goal.returns-then-cells-ne0
+unfolding empty_text
+returns-then-cells-ne0 c = simp (ne_eqb c.args.cells 0 c.if-cells-ne0.true) (c.put_text.ensures ⨾ c.put_padded.ensures ⨾ c.put_text-then-cells-ne0.ensures)
