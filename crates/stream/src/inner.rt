@@ -3,10 +3,11 @@ ghost use Rattle.std.specs.Prelude.{List, ◌++◌, ◌≡◌, ℕ, ◌≤◌, l
 ghost use Rattle.records.specs.Laying.{pen, laid};
 ghost use Rattle.records.specs.Numbers.{u16};
 ghost use Rattle.bounded.specs.Laid.{laid_of, Held, Front};
-ghost use Rattle.stream.specs.Cases.{next_of, parts, comes_to, answer_of, Rooms};
+ghost use Rattle.stream.specs.Cases.{next_of, parts, comes_to, answer_of};
 
 use bounded::inner::{Laid, memory};
 use records::inner::{lay_bytes, lay_u16};
+use sentences::Reason;
 use transfer::{front, room};
 
 pub mod sentences;
@@ -19,6 +20,12 @@ const TOO_LARGE: usize = 65535;
 // Less than a number is there.
 #[derive(Clone, Copy)]
 pub struct CutOff;
+
+impl From<CutOff> for Reason {
+    fn from(_: CutOff) -> Reason {
+        Reason::CutOff
+    }
+}
 
 // What a stream has next, where so many bytes of four were there: a number, or none since it ends here.
 pub fn next_of(got: usize, bytes: &[u8; 4]) -> Result<Option<u32>, CutOff>
@@ -126,12 +133,12 @@ pub fn answer(
     sheet: &[u8],
     formed: bool,
     noises: usize,
-    noise: &[u8],
+    noise: &Noise,
     many: usize,
-    words: &[u8],
-    out: &mut [u8],
+    words: &Words,
+    out: &mut Answer,
 ) -> usize
-    requires { Rooms noise.now words.now × (8204 ≡ length out.old) × Front (take size sheet.now) formed }
+    requires { Front (take size sheet.now) formed }
     ensures by_index { (b : List ℕ) → Held b (take size sheet.now) formed → pen out.new result ≡ laid (answer_of (comes_to (parts b (take noises noise.now) (take many words.now)))) (pen out.old 0) }
     ensures upper_bound { result ≤ 8204 }
 {

@@ -18,7 +18,7 @@ pub fn room<T: Copy, const N: usize>(value: T) -> [T; N]
 // Bytes to read into or to write text into, as many as hold the name of any file, or a page.
 pub type Buffer = [u8; 4096];
 
-pub type Page = [u8; 65536];
+pub type LargeBuffer = [u8; 65536];
 
 // The first n entries, or all of them where there are fewer.
 pub fn front<'a, T>(entries: &'a [T], n: usize) -> &'a [T]
