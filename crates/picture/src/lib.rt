@@ -54,6 +54,7 @@ fn put_colour(page: &mut Page, p: usize)
 }
 
 // A unit square, up to its colour.
+// As `put_place` and `put_beside` but for the texts: one function of all texts is no plainer, since each call of it takes more lines than these puts.
 fn put_square(page: &mut Page, x: usize, y: usize)
     ensures { Puts (square_text x y) page.old page.new }
 {
