@@ -7,9 +7,7 @@ ghost use Rattle.choice.specs.Asked.{choice_asked};
 ghost use Rattle.ocean_c.specs.Coded.{found_coded, entropy_coded};
 
 use crate::codes::{accepted, refused};
-use choice::Choice;
 use grid::{Near, NearAnswer};
-use logarithms::EntropyAnswer;
 
 // The neighbour of a cell in a direction: case 0 with the cell, case 1 at an edge.
 #[unsafe(no_mangle)]
@@ -37,9 +35,9 @@ pub extern "C" fn murghidossu_entropy_of(count: usize, weights: &[u32], domain: 
     ensures { result ≡ entropy_coded (entropy_asked count weights.now domain) }
 {
     match logarithms::entropy_of(count, weights, domain) {
-        EntropyAnswer::Entropy(entropy) => accepted(0, f32::to_bits(entropy) as usize),
-        EntropyAnswer::Nothing => accepted(1, 0),
-        EntropyAnswer::Refused(refusal) => refused(refusal),
+        Ok(Some(entropy)) => accepted(0, f32::to_bits(entropy) as usize),
+        Ok(None) => accepted(1, 0),
+        Err(refusal) => refused(refusal),
     }
 }
 
@@ -54,8 +52,8 @@ pub extern "C" fn murghidossu_choice_of(
     ensures { result ≡ found_coded (choice_asked count weights.now domain word) }
 {
     match choice::choice_of(count, weights, domain, word) {
-        Choice::Pattern(pattern) => accepted(0, pattern),
-        Choice::Nothing => accepted(1, 0),
-        Choice::Refused(refusal) => refused(refusal),
+        Ok(Some(pattern)) => accepted(0, pattern),
+        Ok(None) => accepted(1, 0),
+        Err(refusal) => refused(refusal),
     }
 }

@@ -6,7 +6,6 @@ ghost use Rattle.adjacency.specs.Lookup.{list_refusal};
 ghost use Rattle.ocean_c.specs.Parts.{list_coded};
 
 use crate::codes::refused;
-use refusals::Verdict;
 
 // Whether a table with its weights is accepted, or the first refusal.
 #[unsafe(no_mangle)]
@@ -43,8 +42,8 @@ pub extern "C" fn murghidossu_list(
     ensures { result ≡ list_coded (table count offsets.now ids.now) pattern direction }
 {
     match adjacency::list_refusal(count, offsets, ids, pattern, direction) {
-        Verdict::Accepted => part_of(count, offsets, ids, pattern, direction),
-        Verdict::Refused(refusal) => refused(refusal),
+        Ok(()) => part_of(count, offsets, ids, pattern, direction),
+        Err(refusal) => refused(refusal),
     }
 }
 

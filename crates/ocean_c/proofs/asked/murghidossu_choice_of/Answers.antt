@@ -2,6 +2,7 @@
 -- Assumes nothing.
 use mathlib.Core.Path.{sym, ap, ◌∙◌}
 use native.Mathlib.Omega.{arith}
+use Rattle.std.specs.Prelude.{Ok}
 use Rattle.choice.specs.Asked.{choice_told}
 use Rattle.ocean_c.proofs.CodeLaws.{found-coded, none_coded, unfound_coded}
 use Rattle.ocean_c.proofs.BoundLaws.{choice-small}
@@ -9,16 +10,16 @@ use Rattle.ocean_c.proofs.asked.murghidossu_choice_of.Goals as goal
 
 pub accepted-requires : goal.accepted-requires
 unfolding choice_told
-accepted-requires c = (omega arith, choice-small _ _ _ _ _ (sym (ap choice_told c.in-Pattern.is) ∙ c.choice_of.ensures))
+accepted-requires c = (omega arith, choice-small _ _ _ _ _ (sym (ap choice_told (c.in-Ok-Some.is ∙ ap Ok c.in-Ok-Some.field-0-is)) ∙ c.choice_of.ensures))
 
-pub returns-in-Pattern : goal.returns-in-Pattern
+pub returns-in-Ok-Some : goal.returns-in-Ok-Some
 unfolding choice_told
-returns-in-Pattern c = found-coded (sym (ap choice_told c.in-Pattern.is) ∙ c.choice_of.ensures) c.accepted.ensures
+returns-in-Ok-Some c = found-coded (sym (ap choice_told (c.in-Ok-Some.is ∙ ap Ok c.in-Ok-Some.field-0-is)) ∙ c.choice_of.ensures) c.accepted.ensures
 
-pub returns-in-Nothing : goal.returns-in-Nothing
+pub returns-in-Ok-None : goal.returns-in-Ok-None
 unfolding choice_told
-returns-in-Nothing c = none_coded (sym (ap choice_told c.in-Nothing.is) ∙ c.choice_of.ensures) c.accepted-in-Nothing.ensures
+returns-in-Ok-None c = none_coded (sym (ap choice_told (c.in-Ok-None.is ∙ ap Ok c.in-Ok-None.field-0-is)) ∙ c.choice_of.ensures) c.accepted-in-Ok-None.ensures
 
-pub returns-in-Refused : goal.returns-in-Refused
+pub returns-in-Err : goal.returns-in-Err
 unfolding choice_told
-returns-in-Refused c = unfound_coded (sym (ap choice_told c.in-Refused.is) ∙ c.choice_of.ensures) c.refused.ensures
+returns-in-Err c = unfound_coded (sym (ap choice_told c.in-Err.is) ∙ c.choice_of.ensures) c.refused.ensures
