@@ -1,6 +1,6 @@
 -- The value that a call tells is small enough for its bits. Follows docs/RULES.md, "Refusals". Assumes nothing.
 use mathlib.Core.List.{List}
-use Rattle.std.specs.Prelude.{Some}
+use Rattle.std.specs.Prelude.{Option, Some, None, IfSome}
 use Rattle.std.proofs.lemmas.Option.{none-some}
 use mathlib.Core.Path.{◌≡◌, refl, sym, subst}
 use Prim.Native.Nat.{ℕ, zero, suc, ◌%◌, ◌≤◌, ◌<◌}
@@ -58,9 +58,14 @@ near-inside g c d n zero q e =
     omega (arith, inside, S.few)
 near-inside g c d n (suc k) q e = absurd (answer-refused (Some n) (suc k) e)
 
-pub near-small : (g : Grid) (c d n : ℕ) → answer (Some n) ≡ neighbour_asked g c d → n < 4294967296
+near-small : (g : Grid) (c d n : ℕ) → answer (Some n) ≡ neighbour_asked g c d → n < 4294967296
 unfolding neighbour_asked checked
 near-small g c d n e = near-inside g c d n (first_of (neighbour_tests g c d)) refl e
+
+-- and so is what lies there, if anything
+pub near-few : (g : Grid) (c d : ℕ) (o : Option ℕ) → answer o ≡ neighbour_asked g c d → IfSome o (λ n. n < 4294967296)
+near-few g c d (Some n) e = near-small g c d n e
+near-few g c d None e = tt
 
 -- ---- what is asked of a domain
 
@@ -79,9 +84,13 @@ module _ (P : ℕ) (ws : List ℕ) (w : ℕ) where
     choice-inside zero q e = choice-taken q (weight_sum ws w) (cc)
     choice-inside (suc k) q e = absurd (answer-refused (Some p) (suc k) e)
 
-    pub choice-small : answer (Some p) ≡ choice_asked P ws w word → p < 4294967296
+    choice-small : answer (Some p) ≡ choice_asked P ws w word → p < 4294967296
     unfolding choice_asked checked
     choice-small e = choice-inside (first_of (domain_tests P ws w)) refl e
+
+  pub choice-few : (word : ℕ) (o : Option ℕ) → answer o ≡ choice_asked P ws w word → IfSome o (λ p. p < 4294967296)
+  choice-few word (Some p) e = choice-small word p e
+  choice-few word None e = tt
 
   -- an entropy that is told is no NaN
   module _ (x : Float) where

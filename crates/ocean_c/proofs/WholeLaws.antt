@@ -12,7 +12,6 @@ use lib.Ieee.{Float, binary32, of_bits, to_bits, fits}
 use lib.Ieee.Bits.{of_bits-to_bits}
 use Rattle.refusals.specs.declared.Refusal.{Refusal}
 use Rattle.refusals.specs.Refusals.{number, Asked, refused, answer}
-use Rattle.grid.specs.declared.NearAnswer.{NearAnswer}
 use Rattle.grid.specs.Answers.{near_of}
 use Rattle.starting.specs.declared.Propagated.{Propagated}
 use Rattle.starting.specs.Propagate.{propagated_told}
@@ -31,9 +30,7 @@ use Rattle.choice.proofs.AskedLaws.{choice_told-injective}
 use Rattle.collapse.proofs.EndingLaws.{end_number-most}
 use Rattle.run.proofs.AnswerLaws.{answer_told-injective}
 use Rattle.sheet.proofs.Unique.{written_told-injective}
-use Rattle.grid.specs.declared.NearAnswer.TheVariants as near
 use Rattle.starting.specs.declared.Propagated.TheVariants as propagated
-use Rattle.std.specs.Prelude as code
 use Rattle.std.specs.Prelude.{Result, Ok, Err, Some, None}
 
 -- ---- a case and its value
@@ -143,21 +140,21 @@ answer-sound (Err r) = refuses r
 pub answer-coded : (a b : Result Stop Refusal) → coded (answer_told a) ≡ coded (answer_told b) → a ≡ b
 answer-coded a b e = answer_told-injective a b (coded-injective (answer_told a) (answer_told b) (answer-sound a) (answer-sound b) e)
 
-near-sound : (a : NearAnswer) → Sound Any (near_of a)
+near-sound : (a : Result (Option ℕ) Refusal) → Sound Any (near_of a)
 unfolding near_of Sound
-near-sound (near.Found n) = tt
-near-sound (near.Refused r) = refuses r
+near-sound (Ok near) = tt
+near-sound (Err r) = refuses r
 
-pub near-coded : (a b : NearAnswer) → found_coded (near_of a) ≡ found_coded (near_of b) → a ≡ b
+pub near-coded : (a b : Result (Option ℕ) Refusal) → found_coded (near_of a) ≡ found_coded (near_of b) → a ≡ b
 near-coded a b e = near_of-injective a b (found_coded-injective (near_of a) (near_of b) (near-sound a) (near-sound b) e)
 
-choice-sound : (a : Result (code.Option ℕ) Refusal) → Sound Any (choice_told a)
+choice-sound : (a : Result (Option ℕ) Refusal) → Sound Any (choice_told a)
 unfolding choice_told Sound
 choice-sound (Ok (Some p)) = tt
 choice-sound (Ok None) = tt
 choice-sound (Err r) = refuses r
 
-pub choice-coded : (a b : Result (code.Option ℕ) Refusal) → found_coded (choice_told a) ≡ found_coded (choice_told b) → a ≡ b
+pub choice-coded : (a b : Result (Option ℕ) Refusal) → found_coded (choice_told a) ≡ found_coded (choice_told b) → a ≡ b
 choice-coded a b e = choice_told-injective a b (found_coded-injective (choice_told a) (choice_told b) (choice-sound a) (choice-sound b) e)
 
 propagated-sound : (a : Result Propagated Refusal) → Sound Any (propagated_told a)
