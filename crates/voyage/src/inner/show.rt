@@ -3,11 +3,12 @@ ghost use Rattle.bounded.specs.Laid.{Front};
 
 use crate::inner::files;
 use crate::inner::parts::{bytes_of, domains_of};
-use bounded::inner::{Ground, Laid, memory};
+use bounded::inner::{Ground, Unfit, memory};
 use chart::{Ocean, put_chart};
 use command::files::Names;
 use command::sentences::{TOO_LARGE, UNWRITTEN, put_fault, put_file_fault, put_refusal};
 use picture::{put_picture_head, put_picture_row, put_picture_tail};
+use refusals::Refusal;
 use std::io::Write;
 use std::rt::{Env, Files};
 use text::Page;
@@ -33,7 +34,8 @@ fn write<W: Write, F: FnOnce(&mut Page)>(to: &mut W, put: F) -> bool
 }
 
 // Why a sheet was refused, and where it is wrong.
-pub(crate) fn refused<T: Print>(told: &T, sheet: &[u8], number: u32) {
+pub(crate) fn refused<T: Print>(told: &T, sheet: &[u8], refusal: Refusal) {
+    let number = u32::from(refusal);
     let place = faults::inner::place_in(sheet, number);
     print(told, |page| put_refusal(page, number as usize, place));
 }
@@ -113,19 +115,19 @@ pub(crate) fn run<R: Env + Files + Print, T: Print>(
     let mut domains = memory::domains_to_lend();
     let mut bytes = memory::result_to_lend();
     match bounded::inner::lay(sheet, formed, noise, words, &mut domains, &mut bytes) {
-        Laid::Refused(number) => refused(told, sheet, number),
-        Laid::TooLarge => fault(told, TOO_LARGE),
-        Laid::Ended(end, used, length) => {
+        Err(Unfit::Refused(refusal)) => refused(told, sheet, refusal),
+        Err(Unfit::TooLarge) => fault(told, TOO_LARGE),
+        Ok(run) => {
             let ocean = Ocean {
                 width: ground.width,
                 height: ground.height,
                 mode: ground.mode,
                 named: names.sheet == 0,
-                end: end as usize,
-                words: used,
+                end: u32::from(run.end) as usize,
+                words: run.used,
                 domains: domains_of(&domains, ground.cells),
             };
-            laid(rt, names, told, &ocean, bytes_of(&bytes, length));
+            laid(rt, names, told, &ocean, bytes_of(&bytes, run.size));
         }
     }
 }
