@@ -9,6 +9,7 @@ ghost use Rattle.adjacency.specs.Tables.{table};
 ghost use Rattle.adjacency.specs.Checks.{table_refusal};
 ghost use Rattle.adjacency.specs.Lookup.{list_refusal, list_answer};
 
+use inner::Table;
 use refusals::Refusal;
 
 pub mod inner;
@@ -22,19 +23,24 @@ pub fn check_table(
 ) -> Result<(), Refusal>
     ensures { number_of result ≡ table_refusal (table count offsets.now ids.now) weights.now }
 {
+    let table = Table {
+        count,
+        offsets,
+        ids,
+    };
     if inner::bad_count(count) {
         return Err(Refusal::BadCount);
     }
-    if weights.len() != count || inner::bad_offsets(count, offsets) {
+    if weights.len() != count || table.bad_offsets() {
         return Err(Refusal::BadLength);
     }
     if inner::over_weight(weights) {
         return Err(Refusal::BadWeights);
     }
-    if inner::bad_list(count, offsets, ids) {
+    if table.bad_list() {
         return Err(Refusal::BadList);
     }
-    if inner::disagrees(count, offsets, ids) {
+    if table.disagrees() {
         return Err(Refusal::Disagree);
     }
     Ok(())
@@ -51,7 +57,14 @@ pub fn list<'a>(
     ensures { result.now ≡ list_answer (table count offsets.now ids.now) pattern direction }
 {
     match list_refusal(count, offsets, ids, pattern, direction) {
-        Ok(()) => inner::list_of(count, offsets, ids, pattern, direction),
+        Ok(()) => {
+            let table = Table {
+                count,
+                offsets,
+                ids,
+            };
+            table.list_of(pattern, direction)
+        }
         Err(_) => &ids[0..0],
     }
 }
@@ -66,16 +79,21 @@ pub fn list_refusal(
 ) -> Result<(), Refusal>
     ensures { number_of result ≡ list_refusal (table count offsets.now ids.now) pattern direction }
 {
+    let table = Table {
+        count,
+        offsets,
+        ids,
+    };
     if inner::bad_count(count) {
         return Err(Refusal::BadCount);
     }
-    if inner::bad_offsets(count, offsets) {
+    if table.bad_offsets() {
         return Err(Refusal::BadLength);
     }
-    if inner::bad_list(count, offsets, ids) {
+    if table.bad_list() {
         return Err(Refusal::BadList);
     }
-    if inner::disagrees(count, offsets, ids) {
+    if table.disagrees() {
         return Err(Refusal::Disagree);
     }
     if 3 < direction {

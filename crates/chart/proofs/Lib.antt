@@ -1,3 +1,2 @@
-pub mod TallyLaws
-pub mod ChartLaws
 pub mod SignLaws
+pub mod ChartLaws

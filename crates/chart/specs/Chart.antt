@@ -6,6 +6,7 @@ use Rattle.text.specs.Pages.{ascii, texts, line}
 use Rattle.text.specs.Numbers.{decimal, aligned, padded}
 use Rattle.practice.specs.Names.{name_of}
 use Rattle.chart.specs.Signs.{glyph, joins_x, joins_y, border}
+use Rattle.chart.specs.declared.inner.table.Ocean as shown
 use Rattle.chart.specs.Tallies.{tally, alike, holding}
 
 -- ---- the grid
@@ -73,13 +74,17 @@ entry_text named p cells = ascii "  " ++ (glyph p ∷ []) ++ padded 6 cells ++ a
 unfoldable pub some_text : Bool → List ℕ → ℕ → List ℕ
 some_text named domains p = cond (eqb (tally (alike (alone p)) domains) 0) [] (entry_text named p (tally (alike (alone p)) domains))
 
--- the cells that are told by number, where there are any
-unfoldable pub open_text : ℕ → List ℕ
-open_text cells = cond (eqb cells 0) [] (ascii " 2+" ++ padded 6 cells ++ ascii "  undecided: the number says how many patterns remain\n")
+-- the cells of a sign that is no pattern's: how many, and what it says, where there are any
+unfoldable pub count_text : List ℕ → ℕ → List ℕ → List ℕ
+count_text sign cells meaning = cond (eqb cells 0) [] (sign ++ padded 6 cells ++ meaning)
 
--- the cells without a pattern, where there are any
-unfoldable pub empty_text : ℕ → List ℕ
-empty_text cells = cond (eqb cells 0) [] (ascii "  ?" ++ padded 6 cells ++ ascii "  empty: no pattern remains\n")
+-- the cells that are told by number
+abbrev pub open_text : ℕ → List ℕ
+open_text cells = count_text (ascii " 2+") cells (ascii "  undecided: the number says how many patterns remain\n")
+
+-- the cells without a pattern
+abbrev pub empty_text : ℕ → List ℕ
+empty_text cells = count_text (ascii "  ?") cells (ascii "  empty: no pattern remains\n")
 
 unfoldable pub legend_text : Bool → List ℕ → List ℕ
 legend_text named domains = texts (some_text named domains) 0 64 ++ open_text (tally (holding 2) domains) ++ empty_text (tally (alike 0) domains)
@@ -93,3 +98,7 @@ grid_text wide width mode domains =
 
 unfoldable pub chart_text : ℕ → ℕ → Bool → ℕ → ℕ → List ℕ → List ℕ
 chart_text width mode named end words domains = grid_text (wideness domains) width mode domains ++ seam_text mode ++ end_text end words ++ legend_text named domains
+
+-- the chart of an ocean
+abbrev pub chart_of : shown.Ocean → List ℕ
+chart_of o = chart_text o.width o.mode o.named o.end o.words o.domains.now

@@ -1,12 +1,11 @@
 -- How many cells there are of each kind: decided as a pattern, undecided, empty. Follows docs/RULES.md, "Domains".
 -- Assumes nothing.
-use Rattle.std.specs.Prelude.{Bool, cond, List, [], ◌∷◌, ℕ, ◌+◌, eqb, leb}
+use Rattle.std.specs.Prelude.{Bool, List, ℕ, count_by, eqb, leb}
 use Rattle.words.specs.Words.{how_many}
 
 -- how many entries pass the test
-unfoldable pub tally : (ℕ → Bool) → List ℕ → ℕ
-tally f [] = 0
-tally f (x ∷ xs) = cond (f x) 1 0 + tally f xs
+abbrev pub tally : (ℕ → Bool) → List ℕ → ℕ
+tally f l = count_by f l
 
 -- a cell with exactly the patterns of a word
 abbrev pub alike : ℕ → ℕ → Bool

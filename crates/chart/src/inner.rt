@@ -3,4 +3,4 @@ mod signs;
 mod table;
 
 pub use signs::{joins_x, joins_y};
-pub use table::{count_alike, put_chart, put_end, put_label, row_count};
+pub use table::{Ocean, count_alike, put_chart, put_end, put_label, row_count};

@@ -4,4 +4,4 @@
 
 pub mod inner;
 
-pub use inner::put_chart;
+pub use inner::{Ocean, put_chart};

@@ -1,7 +1,6 @@
 -- Laws of a choice that is asked apart from a run, and that no second answer fits. Follows docs/RULES.md, "Run" and "Refusals".
 -- Assumes nothing.
 use mathlib.Core.List.{List}
-use mathlib.Core.Option.{none, some}
 use mathlib.Core.Path.{◌≡◌, refl, sym, ap, ◌∙◌}
 use Prim.Native.Nat.{ℕ, zero, suc, ◌%◌}
 use Rattle.refusals.specs.declared.Refusal.{Refusal}
@@ -14,7 +13,7 @@ use Rattle.choice.specs.Asked.{taken_if, choice_of, choice_told, choice_asked}
 use Rattle.refusals.proofs.RefusalLaws.{number-injective, checked-accepted, checked_refused}
 
 module _ (ws : List ℕ) (w word : ℕ) where
-  pub choice_of_none : weight_sum ws w ≡ 0 → choice_of ws w word ≡ none
+  pub choice_of_none : weight_sum ws w ≡ 0 → choice_of ws w word ≡ None
   unfolding choice_of taken_if
   choice_of_none e = rw e
 
@@ -40,20 +39,15 @@ module _ (P : ℕ) (ws : List ℕ) (w word : ℕ) where
     unfolding choice_told
     told-nothing z = sym (asked-accepted ∙ ap answer (choice_of_none ws w word z))
 
-    pub told-pattern : {p : ℕ} → (weight_sum ws w ≡ 0 → ⊥) → some p ≡ taken ws w (word % weight_sum ws w) → choice_told (Ok (Some p)) ≡ choice_asked P ws w word
+    pub told-pattern : {p : ℕ} → (weight_sum ws w ≡ 0 → ⊥) → Some p ≡ taken ws w (word % weight_sum ws w) → choice_told (Ok (Some p)) ≡ choice_asked P ws w word
     unfolding choice_told
     told-pattern n e = sym (asked-accepted ∙ ap answer (choice_of-some ws w word n ∙ sym e))
 
 pub choice_told-injective : (a b : Result (Option ℕ) Refusal) → choice_told a ≡ choice_told b → a ≡ b
 unfolding choice_told
-choice_told-injective (Ok (Some p)) (Ok (Some q)) e = ap (λ (n : ℕ). Ok (Some n)) (cc)
-choice_told-injective (Ok (Some p)) (Ok None) e = cc
-choice_told-injective (Ok (Some p)) (Err s) e = cc
-choice_told-injective (Ok None) (Ok (Some q)) e = cc
-choice_told-injective (Ok None) (Ok None) e = refl
-choice_told-injective (Ok None) (Err s) e = cc
-choice_told-injective (Err r) (Ok (Some q)) e = cc
-choice_told-injective (Err r) (Ok None) e = cc
+choice_told-injective (Ok p) (Ok q) e = ap Ok (cc)
+choice_told-injective (Ok p) (Err s) e = cc
+choice_told-injective (Err r) (Ok q) e = cc
 choice_told-injective (Err r) (Err s) e = ap Err (number-injective r s (cc))
 
 -- two answers of `choice_of` that meet its contract are the same

@@ -1,8 +1,6 @@
 -- A choice that is asked apart from a run. Follows docs/RULES.md, "Run" and "Refusals".
 -- Assumes nothing.
-use Rattle.std.specs.Prelude.{List, ℕ, zero, suc, ◌%◌, Result, Ok, Err, Some, None}
-use Rattle.std.specs.Prelude as code
-use Rattle.std.proofs.Math.Option.{Option, none, some}
+use Rattle.std.specs.Prelude.{List, ℕ, zero, suc, ◌%◌, Result, Ok, Err, None, Option}
 use Rattle.words.specs.Words.{beyond}
 use Rattle.adjacency.specs.Weights.{weight_sum}
 use Rattle.adjacency.specs.Checks.{bad_count, weights_misfit, over_weight}
@@ -14,7 +12,7 @@ use Rattle.choice.specs.Choice.{taken}
 -- none without a weighted pattern
 unfoldable pub taken_if : ℕ → List ℕ → ℕ → ℕ → Option ℕ
 unfolding taken
-taken_if zero weights w word = none
+taken_if zero weights w word = None
 taken_if (suc s) weights w word = taken weights w (word % suc s)
 
 unfoldable pub choice_of : List ℕ → ℕ → ℕ → Option ℕ
@@ -22,10 +20,9 @@ unfolding taken_if weight_sum
 choice_of weights w word = taken_if (weight_sum weights w) weights w word
 
 -- the number or the pattern that an answer tells
-unfoldable pub choice_told : Result (code.Option ℕ) Refusal → Asked (Option ℕ)
+unfoldable pub choice_told : Result (Option ℕ) Refusal → Asked (Option ℕ)
 unfolding number
-choice_told (Ok (Some p)) = answer (some p)
-choice_told (Ok None) = answer none
+choice_told (Ok chosen) = answer chosen
 choice_told (Err r) = refused (number r)
 
 -- the choice, where nothing is refused: 3, 5, 4, 9

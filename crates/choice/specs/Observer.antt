@@ -1,8 +1,6 @@
 -- Which cell is observed: of those whose note counts, the least entropy, then the least noise word, then the least cell. Follows docs/RULES.md, "Run".
 -- Assumes nothing.
-use Rattle.std.specs.Prelude.{Bool, not, cond, ◌&&◌, List, ◌≡◌, ℕ, zero, suc, ◌+◌, ◌*◌, leb, eqb, Float, length, get_or, take, drop, Some, None}
-use Rattle.std.specs.Prelude as code
-use Rattle.std.proofs.Math.Option.{Option, none, some}
+use Rattle.std.specs.Prelude.{Bool, not, cond, ◌&&◌, List, ◌≡◌, ℕ, zero, suc, ◌+◌, ◌*◌, leb, eqb, Float, length, get_or, take, drop, Some, None, Option}
 use Rattle.std.specs.Int.Bits.{bit_and}
 use Rattle.std.specs.Float.{nan}
 use Rattle.order.specs.Order.{beats}
@@ -83,7 +81,7 @@ best_at cells v b = cond (eqb b cells) Empty (At b (note_at v b))
 
 -- what is observed: a cell with its entropy, or none
 abbrev pub Observed : Type 0
-Observed = code.Option Sight
+Observed = Option Sight
 
 abbrev pub sight : ℕ → Float → Sight
 sight c e = record { cell = c; entropy = e }
@@ -99,5 +97,5 @@ observe v = observed_as (best_in v 0 (length v.domains))
 
 -- the cell and the entropy that an observation names
 unfoldable pub sight_of : Observed → Option Sight
-sight_of (Some x) = some x
-sight_of None = none
+sight_of (Some x) = Some x
+sight_of None = None

@@ -1,6 +1,5 @@
 // The steps of a run, without checks. Follows docs/RULES.md, "Run".
-ghost use Rattle.std.specs.Prelude.{List, ◌≡◌, ℕ, ◌*◌, ◌≤◌, ◌<◌, length, drop};
-ghost use Rattle.std.proofs.Math.Option.{some};
+ghost use Rattle.std.specs.Prelude.{List, ◌≡◌, ℕ, ◌*◌, ◌≤◌, ◌<◌, length, drop, Some};
 ghost use Rattle.order.specs.Numbers.{Numbers};
 ghost use Rattle.adjacency.specs.Weights.{Bounded, weight_sum};
 ghost use Rattle.choice.specs.Observer.{Lengths, notes_in, best_at, observed_as, observe};
@@ -75,7 +74,7 @@ pub fn forget(cells: usize, marks: &mut [u8])
 // The pattern that a number takes, which is below the word's weight sum: only patterns of the word are visited.
 pub fn choose(weights: &[u32], word: u64, number: u32) -> usize
     requires { Bounded weights.now word × (number < weight_sum weights.now word) }
-    ensures { some result ≡ taken weights.now word number }
+    ensures { Some result ≡ taken weights.now word number }
 {
     let mut left = word;
     let mut r = number;

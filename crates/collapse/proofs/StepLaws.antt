@@ -3,7 +3,6 @@
 -- Assumes nothing.
 use mathlib.Core.Bool.{Bool, true, false, cond, true≢false}
 use mathlib.Core.List.{List, [], ◌∷◌}
-use mathlib.Core.Option.{Option, some}
 use mathlib.Core.Path.{◌≡◌, refl, sym, ap, subst, ◌∙◌}
 use Prim.Native.Nat.{ℕ, zero, suc, ◌+◌, ◌*◌, ◌%◌, ◌≤◌, ◌<◌}
 use native.Mathlib.Decide.{ℕ_discrete}
@@ -31,7 +30,7 @@ use Rattle.propagation.specs.Lent.{state_of, Lent, Ground}
 use Rattle.notes.specs.Sizes.{Alongside}
 use Rattle.forbids.specs.declared.Forbid.{Forbid}
 use Rattle.course.specs.Run.{Given, asked, reduced_by, laid, chosen, decided, still, notes_of, sighted, seen, drawn, turn, Turn, ended}
-use Rattle.std.specs.Prelude.{Some, None}
+use Rattle.std.specs.Prelude.{Some, None, Option}
 use Rattle.choice.specs.declared.inner.Sight.{Sight}
 use Rattle.choice.specs.Observer.{notes_in, observe, sight_of, Observed, sight}
 use Rattle.choice.specs.Choice.{draw, taken}
@@ -157,11 +156,11 @@ module _ {P n : ℕ} {D C Q : List ℕ} {pile : Pile} (L : Lent P n D C Q pile) 
         (λ r a b t. other_bit r (eqb-false r p t) ∙ ap (λ (w : ℕ). bit w r) z ∙ bit_none r)
 
     -- q is the least that is left
-    module _ {q : ℕ} (some : left ≡ 0 → ⊥) (least-is : q ≡ least 64 left) where
+    module _ {q : ℕ} (Some : left ≡ 0 → ⊥) (least-is : q ≡ least 64 left) where
       next_found : (q < P) × (bit left q ≡ 1)
       next_found =
           subst (λ (r : ℕ). (r < P) × (bit left r ≡ 1)) (sym least-is)
-          (least-found 64 P left L.patterns (omega (arith, is, without-le (get_or D c 0) p, L.safe.fit.words c)) some)
+          (least-found 64 P left L.patterns (omega (arith, is, without-le (get_or D c 0) p, L.safe.fit.words c)) Some)
 
       pub next_below : q < P
       next_below = next_found.0
@@ -257,7 +256,7 @@ module _ {P : ℕ} {ws : List ℕ} where
 -- ---- a choice
 
 -- the pattern that a number takes is one of the table
-pub taken-below : {P n : ℕ} {D C Q : List ℕ} {pile : Pile} (L : Lent P n D C Q pile) (ws : List ℕ) (c r : ℕ) {p : ℕ} → some p ≡ taken ws (get_or D c 0) r → p < P
+pub taken-below : {P n : ℕ} {D C Q : List ℕ} {pile : Pile} (L : Lent P n D C Q pile) (ws : List ℕ) (c r : ℕ) {p : ℕ} → Some p ≡ taken ws (get_or D c 0) r → p < P
 taken-below {P} {n} {D} L ws c r {p} e = bit_below (get_or D c 0) P p (L.safe.fit.words c) (taken_in ws (get_or D c 0) r p (sym e)).0
 
 -- a number modulo the weight sum is below it
@@ -266,7 +265,7 @@ drawn-below r {sum} e h = subst (λ (t : ℕ). r % sum < t) e (mod-lt r (omega (
 
 -- with the laying of a forbid that keeps it the choice is made
 pub chosen_is : (i : Given) (c r : ℕ) (s : State Beside) {s' : State Beside} {sum p k : ℕ} → sum ≡ weight_sum i.weights (get_or s.domains c 0)
-    → some p ≡ taken i.weights (get_or s.domains c 0) (r % sum) → (k ≡ 0 → ⊥) → s' ≡ laid i (asking c p k) s
+    → Some p ≡ taken i.weights (get_or s.domains c 0) (r % sum) → (k ≡ 0 → ⊥) → s' ≡ laid i (asking c p k) s
     → s' ≡ chosen i c (taken i.weights (get_or s.domains c 0) (r % weight_sum i.weights (get_or s.domains c 0))) s
 unfolding laid asked chosen
 chosen_is i c r s is e z f =
@@ -295,7 +294,7 @@ module _ (i : Given) (words : List ℕ) (used : ℕ) (s : State Beside) {n m : �
   unfolding sighted notes_of
   observed-sight = rw (e, all, masked)
 
-  cell-sight : {c : ℕ} {f : Float} → o ≡ Some (sight c f) → sighted i s ≡ some (record { cell = c; entropy = f })
+  cell-sight : {c : ℕ} {f : Float} → o ≡ Some (sight c f) → sighted i s ≡ Some (record { cell = c; entropy = f })
   unfolding sight_of
   cell-sight q = sym observed-sight ∙ ap sight_of q
 

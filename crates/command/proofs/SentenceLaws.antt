@@ -1,59 +1,28 @@
--- Laws of the sentences: how a name is shown, and that each is one line.
+-- Laws of the sentences: each is one line.
 -- Assumes nothing.
 use mathlib.Core.Bool.{Bool, true, false, cond, ◌||◌}
 use mathlib.Core.List.{List, [], ◌∷◌, ◌++◌, append_assoc}
 use mathlib.Core.Path.{◌≡◌, refl, sym, ap, ◌∙◌}
-use Prim.Native.Nat.{ℕ, zero, suc, ◌+◌, ◌/◌, ◌%◌, ◌≤◌, ◌<◌}
-use native.Mathlib.Numerals.{add-one}
+use Prim.Native.Nat.{ℕ, zero, suc, ◌+◌, ◌/◌, ◌%◌, ◌<◌}
 use native.Mathlib.Omega.{arith}
 use lib.Dec.{ltb, eqb}
-use lib.ListN.{length, get_or, drop, drop_of_length-le}
-use lib.Seq.{drop-cons}
-use borrow.Author.Tests.{lt-ltb, le-ltb, eq-eqb, ne_eqb, ltb-false, eqb-false}
+use lib.ListN.{length, get_or, take}
+use borrow.Author.Tests.{ne_eqb, ltb-false, eqb-false}
 use Rattle.text.specs.Numbers.{digits, decimal}
+use Rattle.std.proofs.lemmas.List.{map_more}
 use Rattle.text.specs.Pages.{Page, put, ascii, line}
+use Rattle.text.proofs.PageLaws.{put-append}
 use Rattle.directions.specs.Directions.{opposite}
 use Rattle.faults.specs.declared.inner.Place.{Place}
 use Rattle.command.specs.Places.{ways, backs, list_text, half_text, pair_text, forbid_text, where_text}
 use Rattle.command.specs.Sentences.{sentences, refusal_text, faults, fault_text, shown_byte, shown, file_faults, file_text}
-use Rattle.text.proofs.PageLaws.{put_none, put-cons}
 use Rattle.directions.proofs.DirectionLaws.{of_four}
 use Rattle.faults.specs.declared.inner.Place.TheVariants as at
 
--- ---- a byte
+-- ---- a name, byte by byte
 
-pub shown-low : (b : ℕ) → b < 32 → 63 ≡ shown_byte b
-unfolding shown_byte
-shown-low b h = simp (lt-ltb b 32 h)
-
-module _ (b : ℕ) (h : 32 ≤ b) where
-  pub shown_delete : b ≡ 127 → 63 ≡ shown_byte b
-  unfolding shown_byte
-  shown_delete e = simp (le-ltb b 32 h, eq-eqb b 127 e)
-
-  pub shown-plain : (b ≡ 127 → ⊥) → b ≡ shown_byte b
-  unfolding shown_byte
-  shown-plain e = simp (le-ltb b 32 h, ne_eqb b 127 e)
-
--- ---- the loop
-
-module _ (name : List ℕ) {R : Page} where
-  -- a turn at i, which put the byte there as it is shown
-  pub shown-turn : (i b : ℕ) (p q : Page) → i < length name → b ≡ shown_byte (get_or name i 0) → q ≡ put (b ∷ []) p → put (shown (drop i name)) p ≡ R → put (shown (drop (i + 1) name)) q ≡ R
-  unfolding shown
-  shown-turn i b p q h is e inv =
-      let k : put (shown_byte (get_or name i 0) ∷ shown (drop (suc i) name)) p ≡ R = rw (drop-cons name i 0 h) at inv in
-      rw (add-one, e, is) (sym (put-cons (shown_byte (get_or name i 0)) (shown (drop (suc i) name)) p) ∙ k)
-
-  pub shown-end : (i : ℕ) (p : Page) → length name ≤ i → put (shown (drop i name)) p ≡ R → p ≡ R
-  unfolding shown
-  shown-end i p h inv = sym (put_none p) ∙ (rw (drop_of_length-le name h) at inv)
-
--- ---- a place
-
--- what is put for a place that is known
-pub put-placed : (p : Page) {place known : Place} {r : Page} → place ≡ known → r ≡ put (where_text known) p → r ≡ put (where_text place) p
-put-placed p e f = f ∙ ap (λ (x : Place). put (where_text x) p) (sym e)
+pub shown_more : (name : List ℕ) (i : ℕ) (p : Page) → i < length name → put (shown (take (i + 1) name)) p ≡ put (shown_byte (get_or name i 0) ∷ []) (put (shown (take i name)) p)
+shown_more name i p h = rw (map_more shown_byte name i 0 h) (put-append (shown (take i name)) _ p)
 
 -- ---- one line
 
@@ -117,7 +86,6 @@ shown-stays b = stays (ltb b 32) (eqb b 127) refl
     stays false false e h = omega (arith, ltb-false b 32 e)
 
 plain-shown : (name : List ℕ) → Plain (shown name)
-unfolding shown
 plain-shown [] = plain_none
 plain-shown (b ∷ name) = plain-cons (shown_byte b) (shown name) (shown-stays b) (plain-shown name)
 

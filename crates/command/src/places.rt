@@ -1,87 +1,78 @@
 // Where a refused sheet is wrong, in words that follow the refusal's sentence.
-ghost use Rattle.std.specs.Prelude.{◌≡◌};
-ghost use Rattle.text.specs.Pages.{page, put};
+ghost use Rattle.text.specs.Pages.{Puts};
 ghost use Rattle.command.specs.Places.{list_text, half_text, pair_text, forbid_text, where_text};
 
 use faults::inner::Place;
-use text::{put_decimal, put_line, put_text};
+use text::Page;
 
 // A list, by its direction and its pattern.
-fn put_list(p: usize, d: usize, at: usize, out: &mut [u8]) -> usize
-    ensures { page out.new result ≡ put (list_text p d) (page out.old at) }
+fn put_list(page: &mut Page, p: usize, d: usize)
+    ensures { Puts (list_text p d) page.old page.new }
 {
-    let a = put_text(b": what may stand ", at, out);
-    let b = put_line(b"North\nEast\nSouth\nWest", d, a, out);
-    let c = put_text(b" of pattern ", b, out);
-    put_decimal(p, c, out)
+    page.put_text(b": what may stand ");
+    page.put_line(b"North\nEast\nSouth\nWest", d);
+    page.put_text(b" of pattern ");
+    page.put_decimal(p);
 }
 
 // That a pattern stands beside another, in the direction that is line d of the names.
-fn put_half(
-    start: &[u8],
-    q: usize,
-    verb: &[u8],
-    names: &[u8],
-    d: usize,
-    p: usize,
-    at: usize,
-    out: &mut [u8],
-) -> usize
-    ensures { page out.new result ≡ put (half_text start.now q verb.now names.now d p) (page out.old at) }
+#[tactic(auto, using(text::proofs::PageLaws::in_a_row), unfolding(crate::specs::Places::half_text))]
+fn put_half(page: &mut Page, start: &[u8], q: usize, verb: &[u8], names: &[u8], d: usize, p: usize)
+    ensures { Puts (half_text start.now q verb.now names.now d p) page.old page.new }
 {
-    let a = put_text(start, at, out);
-    let b = put_decimal(q, a, out);
-    let c = put_text(verb, b, out);
-    let e = put_line(names, d, c, out);
-    let f = put_text(b" of ", e, out);
-    put_decimal(p, f, out)
+    page.put_text(start);
+    page.put_decimal(q);
+    page.put_text(verb);
+    page.put_line(names, d);
+    page.put_text(b" of ");
+    page.put_decimal(p);
 }
 
 // Two patterns of which one may stand beside the other, and not the other beside it.
-fn put_pair(p: usize, d: usize, q: usize, at: usize, out: &mut [u8]) -> usize
-    ensures { page out.new result ≡ put (pair_text p d q) (page out.old at) }
+#[tactic(auto, using(text::proofs::PageLaws::in_a_row), unfolding(crate::specs::Places::pair_text, crate::specs::Places::ways, crate::specs::Places::backs))]
+fn put_pair(page: &mut Page, p: usize, d: usize, q: usize)
+    ensures { Puts (pair_text p d q) page.old page.new }
 {
-    let a = put_half(
+    put_half(
+        page,
         b": ",
         q,
         b" may stand ",
         b"North\nEast\nSouth\nWest",
         d,
         p,
-        at,
-        out,
     );
     put_half(
+        page,
         b", but not ",
         p,
         b" ",
         b"South\nWest\nNorth\nEast",
         d,
         q,
-        a,
-        out,
-    )
+    );
 }
 
 // A forbid, and what it names.
-fn put_forbid(i: usize, names: &[u8], n: usize, at: usize, out: &mut [u8]) -> usize
-    ensures { page out.new result ≡ put (forbid_text i names.now n) (page out.old at) }
+fn put_forbid(page: &mut Page, i: usize, names: &[u8], n: usize)
+    ensures { Puts (forbid_text i names.now n) page.old page.new }
 {
-    let a = put_text(b": forbid ", at, out);
-    let b = put_decimal(i, a, out);
-    let c = put_text(names, b, out);
-    put_decimal(n, c, out)
+    page.put_text(b": forbid ");
+    page.put_decimal(i);
+    page.put_text(names);
+    page.put_decimal(n);
 }
 
 // The place, and nothing where there is none.
-pub(crate) fn put_place(place: Place, at: usize, out: &mut [u8]) -> usize
-    ensures { page out.new result ≡ put (where_text place) (page out.old at) }
+#[tactic(auto, using(text::proofs::PageLaws::in_a_row), unfolding(crate::specs::Places::where_text))]
+pub(crate) fn put_place(page: &mut Page, place: Place)
+    ensures { Puts (where_text place) page.old page.new }
 {
     match place {
-        Place::Nowhere => at,
-        Place::List(p, d) => put_list(p, d, at, out),
-        Place::Pair(p, d, q) => put_pair(p, d, q, at, out),
-        Place::Cell(i, c) => put_forbid(i, b" names cell ", c, at, out),
-        Place::Pattern(i, p) => put_forbid(i, b" names pattern ", p, at, out),
+        Place::Nowhere => {}
+        Place::List(p, d) => put_list(page, p, d),
+        Place::Pair(p, d, q) => put_pair(page, p, d, q),
+        Place::Cell(i, c) => put_forbid(page, i, b" names cell ", c),
+        Place::Pattern(i, p) => put_forbid(page, i, b" names pattern ", p),
     }
 }

@@ -1,9 +1,9 @@
 -- Laws of which bytes are a sheet: each test by the outcomes of its parts, loops over lists and forbids, and what acceptance tells.
 -- Assumes nothing.
 use mathlib.Core.Bool.{Bool, true, false, ◌&&◌}
-use mathlib.Core.List.{List, [], ◌∷◌}
+use mathlib.Core.List.{List, [], ◌∷◌, ◌++◌}
 use mathlib.Core.Path.{◌≡◌, refl, sym, ap, ◌∙◌}
-use Prim.Native.Nat.{ℕ, suc, ◌+◌, ◌-◌, ◌*◌, ◌/◌, ◌%◌, ◌≤◌, ◌<◌}
+use Prim.Native.Nat.{ℕ, suc, ◌+◌, ◌-◌, ◌*◌, ◌%◌, ◌≤◌, ◌<◌}
 use native.Mathlib.Omega.{arith}
 use lib.Dec.{leb, eqb}
 use lib.ListN.{length, get_or, drop, length-drop, drop_of_length-le}
@@ -14,7 +14,6 @@ use Rattle.records.specs.Records.{begins, payload_of, rest_of}
 use Rattle.layout.specs.Reading.{from_lists, from_grid, from_forbids, Frames, framed, count_in, weights_fit, lists_fit, grid_fits, kinds_fit, forbids_fit, well_formed}
 use Rattle.loops.proofs.TestLaws.{both}
 use Rattle.records.proofs.RecordLaws.{begins-framed}
-use Rattle.records.proofs.NumberLaws.{numbers_in_next}
 
 -- ---- records
 
@@ -101,33 +100,34 @@ module _ (n at : ℕ) (p : List ℕ) where
 
 -- ---- forbids
 
-module _ (p : List ℕ) (i : ℕ) where
-  module _ (h : i < length p / 6) where
-    kinds_next : kinds_fit (numbers_in (drop (6 * i) p)) ≡ leb (u16At p (6 * i + 4)) 1 && kinds_fit (numbers_in (drop (6 * suc i) p))
-    unfolding kinds_fit
-    kinds_next =
-        let two : 6 * i + 2 + 2 ≡ 6 * i + 4 = omega arith in
-        let six : 6 * i + 4 + 2 ≡ 6 * suc i = omega arith in
-        rw (numbers_in_next p (6 * i) (omega arith), numbers_in_next p (6 * i + 2) (omega arith), two, numbers_in_next p (6 * i + 4) (omega arith), six)
+-- the forbid at the front, and those after it
+kinds_next : (rest p : List ℕ) → length p ≡ 6 → kinds_fit (numbers_in (p ++ rest)) ≡ leb (u16At p 4) 1 && kinds_fit (numbers_in rest)
+unfolding kinds_fit numbers_in u16At
+kinds_next rest [] h = absurd (omega arith)
+kinds_next rest (a ∷ []) h = absurd (omega arith)
+kinds_next rest (a ∷ b ∷ []) h = absurd (omega arith)
+kinds_next rest (a ∷ b ∷ c ∷ []) h = absurd (omega arith)
+kinds_next rest (a ∷ b ∷ c ∷ d ∷ []) h = absurd (omega arith)
+kinds_next rest (a ∷ b ∷ c ∷ d ∷ e ∷ []) h = absurd (omega arith)
+kinds_next rest (a ∷ b ∷ c ∷ d ∷ e ∷ f ∷ []) h = refl
+kinds_next rest (a ∷ b ∷ c ∷ d ∷ e ∷ f ∷ g ∷ l) h = absurd (omega arith)
 
-    pub kinds-over : {n : ℕ} → n ≡ u16At p (6 * i + 4) → 1 < n → false ≡ kinds_fit (numbers_in (drop (6 * i) p))
-    kinds-over e l = sym (kinds_next ∙ rw (lt-leb (u16At p (6 * i + 4)) 1 (omega arith)))
+module _ {bytes : List ℕ} (rest p : List ℕ) (e : bytes ≡ p ++ rest) (h : length p ≡ 6) where
+  pub kinds-over : 1 < u16At p 4 → false ≡ kinds_fit (numbers_in bytes)
+  kinds-over l = sym (rw e (kinds_next rest p h ∙ rw (lt-leb (u16At p 4) 1 l)))
 
-    pub kinds_more : {n : ℕ} → n ≡ u16At p (6 * i + 4) → n ≤ 1 → kinds_fit (numbers_in (drop (6 * i) p)) ≡ kinds_fit (numbers_in (drop (6 * suc i) p))
-    kinds_more e l = kinds_next ∙ rw (le-leb (u16At p (6 * i + 4)) 1 (omega arith))
+  pub kinds_more : u16At p 4 ≤ 1 → kinds_fit (numbers_in rest) ≡ kinds_fit (numbers_in bytes)
+  kinds_more l = sym (rw e (kinds_next rest p h ∙ rw (le-leb (u16At p 4) 1 l)))
 
-  pub kinds-end : length p / 6 ≤ i → true ≡ kinds_fit (numbers_in (drop (6 * i) p))
-  unfolding kinds_fit numbers_in
-  kinds-end h = go (drop (6 * i) p) (omega (arith, length-drop (6 * i) p))
-    where
-      go : (l : List ℕ) → length l < 6 → true ≡ kinds_fit (numbers_in l)
-      go [] h = refl
-      go (a ∷ []) h = refl
-      go (a ∷ b ∷ []) h = refl
-      go (a ∷ b ∷ c ∷ []) h = refl
-      go (a ∷ b ∷ c ∷ d ∷ []) h = refl
-      go (a ∷ b ∷ c ∷ d ∷ e ∷ []) h = refl
-      go (a ∷ b ∷ c ∷ d ∷ e ∷ f ∷ l) h = absurd (omega arith)
+pub kinds-end : (rest : List ℕ) → length rest < 6 → true ≡ kinds_fit (numbers_in rest)
+unfolding kinds_fit numbers_in
+kinds-end [] h = refl
+kinds-end (a ∷ []) h = refl
+kinds-end (a ∷ b ∷ []) h = refl
+kinds-end (a ∷ b ∷ c ∷ []) h = refl
+kinds-end (a ∷ b ∷ c ∷ d ∷ []) h = refl
+kinds-end (a ∷ b ∷ c ∷ d ∷ e ∷ []) h = refl
+kinds-end (a ∷ b ∷ c ∷ d ∷ e ∷ f ∷ l) h = absurd (omega arith)
 
 pub forbids-is : (p : List ℕ) {six few kinds : Bool} → eqb (length p % 6) 0 ≡ six → leb (length p) 24576 ≡ few → kinds_fit (numbers_in p) ≡ kinds
     → forbids_fit p ≡ six && (few && kinds)

@@ -8,14 +8,14 @@ use native.Mathlib.Numerals.{add-one}
 use native.Mathlib.Omega.{arith}
 use lib.Dec.{eqb}
 use lib.ListN.{length, get_or, drop, length-append, length-drop}
-use lib.Seq.{length-take-le, get_or-drop, drop-drop}
+use lib.Seq.{length-take-le}
 use Rattle.records.specs.Numbers.{u16s}
 use Rattle.adjacency.specs.Tables.{Table, list_at}
 use Rattle.adjacency.specs.Accepted.{Laid, Listed, Accepted}
 use Rattle.records.specs.Records.{record_of}
 use Rattle.grid.specs.Grid.{Grid}
 use Rattle.layout.specs.Sheet.{Sheet, list_bytes, bytes_of}
-use Rattle.layout.specs.Lending.{Fitting}
+use Rattle.layout.specs.Lending.{Small, Numbered, Fitting}
 use Rattle.layout.specs.Tables.{sheet_for, lists_from, lists_of, kind_of, stored}
 use Rattle.records.proofs.NumberLaws.{length-u16s}
 use Rattle.adjacency.proofs.ListLaws.{list_at_of}
@@ -109,36 +109,54 @@ stored-three (c ∷ p ∷ k ∷ l) = omega (arith, stored-three l)
 pub stored-length : (fs : List ℕ) → length (u16s (stored fs)) ≡ 6 * (length fs / 3)
 stored-length fs = omega (arith, length-u16s (stored fs), stored-three fs)
 
-stored-front : (fs : List ℕ) → 3 ≤ length fs → stored fs ≡ get_or fs 0 0 ∷ get_or fs 1 0 ∷ kind_of (get_or fs 2 0) ∷ stored (drop 3 fs)
-unfolding stored
-stored-front [] h = absurd (omega arith)
-stored-front (c ∷ []) h = absurd (omega arith)
-stored-front (c ∷ p ∷ []) h = absurd (omega arith)
-stored-front (c ∷ p ∷ k ∷ l) h = refl
+-- three numbers that fit two bytes each
+pub three-small : (a b c : ℕ) → a < 65536 → b < 65536 → c < 65536 → Small (a ∷ b ∷ c ∷ [])
+three-small a b c f g h zero l = f
+three-small a b c f g h (suc zero) l = g
+three-small a b c f g h (suc (suc zero)) l = h
+three-small a b c f g h (suc (suc (suc k))) l = absurd (omega arith)
 
-stored_short : (fs : List ℕ) → length fs < 3 → stored fs ≡ []
-unfolding stored
+-- the forbid at the front, and those after it
+module _ (rest : List ℕ) where
+  stored_front : (fs : List ℕ) → length fs ≡ 3 → u16s (stored (fs ++ rest)) ≡ u16s (get_or fs 0 0 ∷ get_or fs 1 0 ∷ kind_of (get_or fs 2 0) ∷ []) ++ u16s (stored rest)
+  unfolding stored u16s
+  stored_front [] e = absurd (omega arith)
+  stored_front (c ∷ []) e = absurd (omega arith)
+  stored_front (c ∷ p ∷ []) e = absurd (omega arith)
+  stored_front (c ∷ p ∷ k ∷ []) e = refl
+  stored_front (c ∷ p ∷ k ∷ x ∷ l) e = absurd (omega arith)
+
+  numbered_front : (fs : List ℕ) → length fs ≡ 3 → Numbered (fs ++ rest) → (get_or fs 0 0 < 65536) × (get_or fs 1 0 < 65536) × Numbered rest
+  numbered_front [] e h = absurd (omega arith)
+  numbered_front (c ∷ []) e h = absurd (omega arith)
+  numbered_front (c ∷ p ∷ []) e h = absurd (omega arith)
+  numbered_front (c ∷ p ∷ k ∷ []) e h =
+      let (first, second) = h 0 (omega arith) in (
+        first,
+        second,
+        λ i l.
+            let a : 3 * suc i ≡ suc (suc (suc (3 * i))) = omega arith in
+            let b : suc (suc (suc (3 * i))) + 1 ≡ suc (suc (suc (3 * i + 1))) = omega arith in
+            rw (a, b) at (h (suc i) (omega arith)),
+      )
+  numbered_front (c ∷ p ∷ k ∷ x ∷ l) e h = absurd (omega arith)
+
+module _ {forbids : List ℕ} (rest fs : List ℕ) (e : forbids ≡ fs ++ rest) (h : length fs ≡ 3) where
+  pub stored_next : u16s (stored forbids) ≡ u16s (get_or fs 0 0 ∷ get_or fs 1 0 ∷ kind_of (get_or fs 2 0) ∷ []) ++ u16s (stored rest)
+  stored_next = rw e (stored_front rest fs h)
+
+  pub stored-room : 6 ≤ length (u16s (stored forbids))
+  stored-room = omega (arith, stored-length forbids, ap length e, length-append fs rest, h)
+
+  pub numbered_next : Numbered forbids → (get_or fs 0 0 < 65536) × (get_or fs 1 0 < 65536) × Numbered rest
+  numbered_next n = numbered_front rest fs h (rw e at n)
+
+pub stored_short : (fs : List ℕ) → length fs < 3 → u16s (stored fs) ≡ []
+unfolding stored u16s
 stored_short [] h = refl
 stored_short (c ∷ []) h = refl
 stored_short (c ∷ p ∷ []) h = refl
 stored_short (c ∷ p ∷ k ∷ l) h = absurd (omega arith)
-
--- the bytes of the forbids from forbid i on
-abbrev pub forbids_from : List ℕ → ℕ → List ℕ
-forbids_from fs i = u16s (stored (drop (3 * i) fs))
-
-pub forbids_from_next : (fs : List ℕ) (i : ℕ) → i < length fs / 3
-    → forbids_from fs i ≡ u16s (get_or fs (3 * i) 0 ∷ get_or fs (3 * i + 1) 0 ∷ kind_of (get_or fs (3 * i + 2) 0) ∷ []) ++ forbids_from fs (i + 1)
-unfolding u16s
-forbids_from_next fs i h =
-    let none : 3 * i + 0 ≡ 3 * i = omega arith in
-    let next : 3 * i + 3 ≡ 3 * (i + 1) = omega arith in
-    ap u16s (stored-front (drop (3 * i) fs) (omega (arith, length-drop (3 * i) fs)))
-    ∙ rw (get_or-drop (3 * i) fs 0 0, none, get_or-drop (3 * i) fs 1 0, get_or-drop (3 * i) fs 2 0, drop-drop 3 (3 * i) fs, next)
-
-pub forbids_from_none : (fs : List ℕ) (i : ℕ) → length fs / 3 ≤ i → forbids_from fs i ≡ []
-unfolding u16s
-forbids_from_none fs i h = ap u16s (stored_short (drop (3 * i) fs) (omega (arith, length-drop (3 * i) fs)))
 
 -- ---- the whole
 

@@ -1,7 +1,6 @@
 -- Laws of the entropy asked apart from a run: what an accepted domain is, what is answered, and that no second answer fits.
 -- Assumes nothing.
 use mathlib.Core.List.{List}
-use mathlib.Core.Option.{some}
 use mathlib.Core.Path.{◌≡◌, refl, sym, ap, ◌∙◌}
 use Prim.Native.Nat.{ℕ}
 use lib.Ieee.{Float}
@@ -41,20 +40,15 @@ module _ (P : ℕ) (ws : List ℕ) (w : ℕ) where
 
     pub told-entropy : {e : Float} → (weight_sum ws w ≡ 0 → ⊥) → e ≡ entropy (weight_sum ws w) (less ws w) → entropy_told (Ok (Some e)) ≡ entropy_asked P ws w
     unfolding entropy_told
-    told-entropy n is = sym (asked-accepted ∙ ap answer (entropy_of-some ws w n) ∙ ap (λ x. answer (some x)) (sym is))
+    told-entropy n is = sym (asked-accepted ∙ ap answer (entropy_of-some ws w n) ∙ ap (λ x. answer (Some x)) (sym is))
 
 -- ---- no second answer fits
 
 pub entropy_told-injective : (a b : Result (Option Float) Refusal) → entropy_told a ≡ entropy_told b → a ≡ b
 unfolding entropy_told
-entropy_told-injective (Ok (Some x)) (Ok (Some y)) e = ap (λ z. Ok (Some z)) (cc)
-entropy_told-injective (Ok (Some x)) (Ok None) e = cc
-entropy_told-injective (Ok (Some x)) (Err s) e = cc
-entropy_told-injective (Ok None) (Ok (Some y)) e = cc
-entropy_told-injective (Ok None) (Ok None) e = refl
-entropy_told-injective (Ok None) (Err s) e = cc
-entropy_told-injective (Err r) (Ok (Some y)) e = cc
-entropy_told-injective (Err r) (Ok None) e = cc
+entropy_told-injective (Ok x) (Ok y) e = ap Ok (cc)
+entropy_told-injective (Ok x) (Err s) e = cc
+entropy_told-injective (Err r) (Ok y) e = cc
 entropy_told-injective (Err r) (Err s) e = ap Err (number-injective r s (cc))
 
 -- two answers that meet the contract of `entropy_of` are equal

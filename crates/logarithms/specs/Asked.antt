@@ -1,8 +1,6 @@
 -- The entropy of a domain asked apart from a run: its refusals, and what the answer tells. Follows docs/RULES.md, "Entropy" and "Refusals".
 -- Assumes nothing.
-use Rattle.std.specs.Prelude.{List, [], ◌∷◌, ℕ, Float, Result, Ok, Err, Some, None}
-use Rattle.std.specs.Prelude as code
-use Rattle.std.proofs.Math.Option.{Option, none, some}
+use Rattle.std.specs.Prelude.{List, [], ◌∷◌, ℕ, Float, Result, Ok, Err, Option}
 use Rattle.words.specs.Words.{beyond}
 use Rattle.refusals.specs.declared.Refusal.{Refusal}
 use Rattle.refusals.specs.declared.Refusal.TheVariants.{BadCount, BadWeights, BadLength, BadPattern}
@@ -26,8 +24,7 @@ unfolding checked bad_count weights_misfit over_weight beyond entropy_of
 entropy_asked P weights w = checked (domain_tests P weights w) (entropy_of weights w)
 
 -- the number or the entropy that an answer tells
-unfoldable pub entropy_told : Result (code.Option Float) Refusal → Asked (Option Float)
+unfoldable pub entropy_told : Result (Option Float) Refusal → Asked (Option Float)
 unfolding number
-entropy_told (Ok (Some e)) = answer (some e)
-entropy_told (Ok None) = answer none
+entropy_told (Ok entropy) = answer entropy
 entropy_told (Err r) = refused (number r)

@@ -1,5 +1,5 @@
 -- Laws of an answer as one number: the number of each case, by what the answer tells. Follows docs/RULES.md, "Refusals". Assumes nothing.
-use mathlib.Core.Option.{Option, none, some}
+use Rattle.std.specs.Prelude.{Option, None, Some}
 use mathlib.Core.Path.{◌≡◌, refl, sym, ap, subst, ◌∙◌}
 use Prim.Native.Nat.{ℕ, ◌+◌, ◌*◌, ◌≤◌, ◌<◌}
 use native.Mathlib.Omega.{arith}
@@ -48,11 +48,11 @@ end-coded {a} {end} {used} e c k = k ∙ ap (λ (m : ℕ). cased m used) c ∙ s
 
 -- ---- what is asked apart from a run
 
-pub found-coded : {o : Asked (Option ℕ)} {k n : ℕ} → answer (some k) ≡ o → n ≡ cased 0 k → n ≡ found_coded o
+pub found-coded : {o : Asked (Option ℕ)} {k n : ℕ} → answer (Some k) ≡ o → n ≡ cased 0 k → n ≡ found_coded o
 unfolding found_coded
 found-coded is e = e ∙ ap found_coded is
 
-pub none_coded : {o : Asked (Option ℕ)} {n : ℕ} → answer none ≡ o → n ≡ cased 1 0 → n ≡ found_coded o
+pub none_coded : {o : Asked (Option ℕ)} {n : ℕ} → answer None ≡ o → n ≡ cased 1 0 → n ≡ found_coded o
 unfolding found_coded
 none_coded is e = e ∙ ap found_coded is
 
@@ -60,11 +60,11 @@ pub unfound_coded : {o : Asked (Option ℕ)} {k n : ℕ} → refused k ≡ o →
 unfolding found_coded
 unfound_coded is e = e ∙ ap found_coded is
 
-pub entropy-coded : {o : Asked (Option Float)} {x : Float} {n : ℕ} → answer (some x) ≡ o → n ≡ cased 0 (to_bits binary32 x) → n ≡ entropy_coded o
+pub entropy-coded : {o : Asked (Option Float)} {x : Float} {n : ℕ} → answer (Some x) ≡ o → n ≡ cased 0 (to_bits binary32 x) → n ≡ entropy_coded o
 unfolding entropy_coded
 entropy-coded is e = e ∙ ap entropy_coded is
 
-pub no-entropy-coded : {o : Asked (Option Float)} {n : ℕ} → answer none ≡ o → n ≡ cased 1 0 → n ≡ entropy_coded o
+pub no-entropy-coded : {o : Asked (Option Float)} {n : ℕ} → answer None ≡ o → n ≡ cased 1 0 → n ≡ entropy_coded o
 unfolding entropy_coded
 no-entropy-coded is e = e ∙ ap entropy_coded is
 

@@ -1,2 +1,2 @@
-pub mod PictureLaws
 pub mod ColourLaws
+pub mod PictureLaws

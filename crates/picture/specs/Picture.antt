@@ -4,6 +4,7 @@ use Rattle.std.specs.Prelude.{Bool, cond, List, [], ◌∷◌, ◌++◌, ℕ, �
 use Rattle.words.specs.Words.{alone, how_many, least}
 use Rattle.text.specs.Pages.{ascii, texts, line}
 use Rattle.text.specs.Numbers.{decimal}
+use Rattle.chart.specs.declared.Ocean as shown
 use Rattle.chart.specs.Signs.{joins_x, joins_y}
 use Rattle.chart.specs.Tallies.{tally, alike}
 use Rattle.chart.specs.Chart.{row_count, row_of, end_text, label_text}
@@ -145,3 +146,14 @@ tail_text width height mode named domains =
 unfoldable pub picture_text : ℕ → ℕ → ℕ → Bool → ℕ → ℕ → List ℕ → List ℕ
 picture_text width height mode named end words domains =
     head_text width height mode end words ++ texts (picture_row width named domains) 0 height ++ tail_text width height mode named domains
+
+-- ---- of an ocean
+
+abbrev pub head_of : shown.Ocean → List ℕ
+head_of o = head_text o.width o.height o.mode o.end o.words
+
+abbrev pub picture_row_of : shown.Ocean → ℕ → List ℕ
+picture_row_of o y = picture_row o.width o.named o.domains.now y
+
+abbrev pub tail_of : shown.Ocean → List ℕ
+tail_of o = tail_text o.width o.height o.mode o.named o.domains.now

@@ -1,13 +1,14 @@
 // The picture of an ocean, as SVG: a square for each cell, coloured by its pattern. Each call puts the text of one definition.
 #![tactic(auto)]
 
-ghost use Rattle.std.specs.Prelude.{◌≡◌, ◌+◌, ◌<◌, ◌≤◌};
-ghost use Rattle.text.specs.Pages.{page, put, texts};
-ghost use Rattle.picture.specs.Picture.{part, colour_text, square_text, place_text, fill_text, told_text, mark_text, tile_text, tiles_text, picture_row, stroke_text, upright_text, level_text, size_text, key_text, foot_text, head_text, beside_text, caption_text, swatch_text, shown_text, tail_text};
+ghost use Rattle.std.specs.Prelude.{◌≡◌, ◌<◌, ◌≤◌};
+ghost use Rattle.text.specs.Pages.{Puts, texts};
+ghost use Rattle.picture.specs.Picture.{part, colour_text, square_text, place_text, fill_text, told_text, mark_text, tile_text, tiles_text, picture_row, stroke_text, upright_text, level_text, size_text, key_text, foot_text, beside_text, caption_text, swatch_text, shown_text, head_of, picture_row_of, tail_of};
 ghost use Rattle.picture.specs.Picture as meaning;
 
+use chart::Ocean;
 use chart::inner::{count_alike, joins_x, joins_y, put_end, put_label, row_count};
-use text::{put_byte, put_decimal, put_line, put_text};
+use text::Page;
 
 // Red, green and blue of each pattern.
 const COLOURS: [u8; 192] = [
@@ -25,166 +26,156 @@ const COLOURS: [u8; 192] = [
 
 // ---- a cell
 
-// A byte as a number.
-fn wide(x: u8) -> usize
-    ensures { result ≡ x }
-{
-    x as usize
-}
-
 // Red (0), green (1) or blue (2) of a pattern's colour.
+#[tactic(auto, unfolding(crate::specs::Picture::part, crate::specs::Picture::colours))]
 fn part_of(p: usize, k: usize) -> usize
     requires { k < 3 }
     ensures { result ≡ part p k }
 {
-    if p < 64 { wide(COLOURS[3 * p + k]) } else { 0 }
+    if p < 64 {
+        usize::from(COLOURS[3 * p + k])
+    } else {
+        0
+    }
 }
 
 // A pattern's colour.
-fn put_colour(p: usize, at: usize, out: &mut [u8]) -> usize
-    ensures { page out.new result ≡ put (colour_text p) (page out.old at) }
+#[tactic(auto, using(text::proofs::PageLaws::in_a_row), unfolding(crate::specs::Picture::colour_text))]
+fn put_colour(page: &mut Page, p: usize)
+    ensures { Puts (colour_text p) page.old page.new }
 {
-    let red = part_of(p, 0);
-    let green = part_of(p, 1);
-    let blue = part_of(p, 2);
-    let a = put_text(b"rgb(", at, out);
-    let b = put_decimal(red, a, out);
-    let c = put_byte(b',', b, out);
-    let d = put_decimal(green, c, out);
-    let e = put_byte(b',', d, out);
-    let f = put_decimal(blue, e, out);
-    put_byte(b')', f, out)
+    page.put_text(b"rgb(");
+    page.put_decimal(part_of(p, 0));
+    page.put_byte(b',');
+    page.put_decimal(part_of(p, 1));
+    page.put_byte(b',');
+    page.put_decimal(part_of(p, 2));
+    page.put_byte(b')');
 }
 
 // A unit square, up to its colour.
-fn put_square(x: usize, y: usize, at: usize, out: &mut [u8]) -> usize
-    ensures { page out.new result ≡ put (square_text x y) (page out.old at) }
+// As `put_place` and `put_beside` but for the texts: one function of all texts is no plainer, since each call of it takes more lines than these puts.
+fn put_square(page: &mut Page, x: usize, y: usize)
+    ensures { Puts (square_text x y) page.old page.new }
 {
-    let a = put_text(b"<rect x=\"", at, out);
-    let b = put_decimal(x, a, out);
-    let c = put_text(b"\" y=\"", b, out);
-    let d = put_decimal(y, c, out);
-    put_text(b"\" width=\"1\" height=\"1\" fill=\"", d, out)
+    page.put_text(b"<rect x=\"");
+    page.put_decimal(x);
+    page.put_text(b"\" y=\"");
+    page.put_decimal(y);
+    page.put_text(b"\" width=\"1\" height=\"1\" fill=\"");
 }
 
 // Where a cell is, in words.
-fn put_place(x: usize, y: usize, at: usize, out: &mut [u8]) -> usize
-    ensures { page out.new result ≡ put (place_text x y) (page out.old at) }
+fn put_place(page: &mut Page, x: usize, y: usize)
+    ensures { Puts (place_text x y) page.old page.new }
 {
-    let a = put_text(b"\"><title>column ", at, out);
-    let b = put_decimal(x, a, out);
-    let c = put_text(b", row ", b, out);
-    let d = put_decimal(y, c, out);
-    put_text(b": ", d, out)
+    page.put_text(b"\"><title>column ");
+    page.put_decimal(x);
+    page.put_text(b", row ");
+    page.put_decimal(y);
+    page.put_text(b": ");
 }
 
 // What a cell is filled with: its pattern's colour, hatching where it is undecided, black where it is empty.
-fn put_fill(word: u64, at: usize, out: &mut [u8]) -> usize
-    ensures { page out.new result ≡ put (fill_text word) (page out.old at) }
+#[tactic(auto, using(text::proofs::PageLaws::in_a_row), unfolding(crate::specs::Picture::fill_text))]
+fn put_fill(page: &mut Page, word: u64)
+    ensures { Puts (fill_text word) page.old page.new }
 {
     if word == 0 {
-        return put_text(b"black", at, out);
+        return page.put_text(b"black");
     }
-    let left = words::inner::count_ones(word);
-    if left == 1 {
-        return put_colour(words::inner::next_pattern(word), at, out);
+    if words::inner::count_ones(word) == 1 {
+        return put_colour(page, words::inner::next_pattern(word));
     }
-    put_text(b"url(#open)", at, out)
+    page.put_text(b"url(#open)");
 }
 
 // What a cell is, in words.
-fn put_told(named: bool, word: u64, at: usize, out: &mut [u8]) -> usize
-    ensures { page out.new result ≡ put (told_text named word) (page out.old at) }
+#[tactic(auto, using(text::proofs::PageLaws::in_a_row), unfolding(crate::specs::Picture::told_text))]
+fn put_told(page: &mut Page, named: bool, word: u64)
+    ensures { Puts (told_text named word) page.old page.new }
 {
     if word == 0 {
-        return put_text(b"no pattern remains", at, out);
+        return page.put_text(b"no pattern remains");
     }
     let left = words::inner::count_ones(word);
     if left == 1 {
         let p = words::inner::next_pattern(word);
-        let a = put_text(b"pattern ", at, out);
-        let b = put_decimal(p, a, out);
-        return put_label(named, p, b, out);
+        page.put_text(b"pattern ");
+        page.put_decimal(p);
+        return put_label(page, named, p);
     }
-    let a = put_decimal(left, at, out);
-    put_text(b" patterns remain", a, out)
+    page.put_decimal(left);
+    page.put_text(b" patterns remain");
 }
 
 // How many patterns remain, written on an undecided cell.
-fn put_mark(x: usize, y: usize, word: u64, at: usize, out: &mut [u8]) -> usize
-    ensures { page out.new result ≡ put (mark_text x y word) (page out.old at) }
+#[tactic(auto, using(text::proofs::PageLaws::in_a_row), unfolding(crate::specs::Picture::mark_text))]
+fn put_mark(page: &mut Page, x: usize, y: usize, word: u64)
+    ensures { Puts (mark_text x y word) page.old page.new }
 {
     let left = words::inner::count_ones(word);
-    if left < 2 {
-        return at;
+    if 2 <= left {
+        page.put_text(b"<text x=\"");
+        page.put_decimal(x);
+        page.put_text(b"\" y=\"");
+        page.put_decimal(y);
+        page.put_text(b"\" dx=\".5\" dy=\".7\" text-anchor=\"middle\">");
+        page.put_decimal(left);
+        page.put_text(b"</text>");
     }
-    let a = put_text(b"<text x=\"", at, out);
-    let b = put_decimal(x, a, out);
-    let c = put_text(b"\" y=\"", b, out);
-    let d = put_decimal(y, c, out);
-    let e = put_text(b"\" dx=\".5\" dy=\".7\" text-anchor=\"middle\">", d, out);
-    let f = put_decimal(left, e, out);
-    put_text(b"</text>", f, out)
 }
 
 // A cell.
-fn put_tile(named: bool, x: usize, y: usize, word: u64, at: usize, out: &mut [u8]) -> usize
-    ensures { page out.new result ≡ put (tile_text named x y word) (page out.old at) }
+fn put_tile(page: &mut Page, named: bool, x: usize, y: usize, word: u64)
+    ensures { Puts (tile_text named x y word) page.old page.new }
 {
-    let a = put_square(x, y, at, out);
-    let b = put_fill(word, a, out);
-    let c = put_place(x, y, b, out);
-    let d = put_told(named, word, c, out);
-    let e = put_text(b"</title></rect>", d, out);
-    let f = put_mark(x, y, word, e, out);
-    put_byte(b'\n', f, out)
+    put_square(page, x, y);
+    put_fill(page, word);
+    put_place(page, x, y);
+    put_told(page, named, word);
+    page.put_text(b"</title></rect>");
+    put_mark(page, x, y, word);
+    page.put_byte(b'\n');
 }
 
 // ---- a row
 
 // The cells of a row.
-fn put_tiles(named: bool, y: usize, row: &[u64], at: usize, out: &mut [u8]) -> usize
-    ensures { page out.new result ≡ put (tiles_text named y row.now) (page out.old at) }
+#[tactic(auto, using(text::proofs::PageLaws::turns), unfolding(crate::specs::Picture::tiles_text))]
+fn put_tiles(page: &mut Page, named: bool, y: usize, row: &[u64])
+    ensures { Puts (tiles_text named y row.now) page.old page.new }
 {
-    let mut next = at;
-    let mut x = 0;
-    while x < row.len() {
-        next = put_tile(named, x, y, row[x], next, out);
-        x += 1;
+    for (x, word) in row.iter().enumerate() {
+        put_tile(page, named, x, y, *word);
     }
-    next
 }
 
-// Row y of the picture.
-pub fn put_picture_row(
-    width: usize,
-    named: bool,
-    domains: &[u64],
-    y: usize,
-    at: usize,
-    out: &mut [u8],
-) -> usize
-    ensures { page out.new result ≡ put (picture_row width named domains.now y) (page out.old at) }
+// Row y of the picture, and nothing past the last.
+#[tactic(auto, using(text::proofs::PageLaws::in_a_row), unfolding(crate::specs::Picture::picture_row))]
+pub fn put_picture_row(page: &mut Page, ocean: &Ocean, y: usize)
+    ensures { Puts (picture_row_of ocean.now y) page.old page.new }
 {
-    if y < row_count(width, domains.len()) {
-        let start = y * width;
-        let end = start + width;
-        return put_tiles(named, y, &domains[start..end], at, out);
+    if y < row_count(ocean.width, ocean.domains.len()) {
+        let start = y * ocean.width;
+        let end = start + ocean.width;
+        put_tiles(page, ocean.named, y, &ocean.domains[start..end]);
     }
-    at
 }
 
 // ---- around the cells
 
 // So much below the grid, of which 64 rows count at most.
+#[tactic(auto, unfolding(crate::specs::Picture::beneath))]
 fn beneath(height: usize, k: usize) -> usize
     requires { k ≤ 64 }
     ensures { result ≡ meaning.beneath height k }
 {
-    if height < 64 { height + k } else { 64 + k }
+    height.min(64) + k
 }
 
 // How wide the picture is: the legend's four columns of nine and a margin at least.
+#[tactic(auto, unfolding(crate::specs::Picture::breadth))]
 fn breadth(width: usize) -> usize
     ensures { result ≡ meaning.breadth width }
 {
@@ -192,214 +183,160 @@ fn breadth(width: usize) -> usize
 }
 
 // How a side is drawn.
-fn put_stroke(joined: bool, at: usize, out: &mut [u8]) -> usize
-    ensures { page out.new result ≡ put (stroke_text joined) (page out.old at) }
+#[tactic(auto, using(text::proofs::PageLaws::in_a_row), unfolding(crate::specs::Picture::stroke_text))]
+fn put_stroke(page: &mut Page, joined: bool)
+    ensures { Puts (stroke_text joined) page.old page.new }
 {
     if joined {
-        return put_text(
-            b"\" stroke=\"black\" stroke-width=\".12\" stroke-dasharray=\".4 .3\"/>\n",
-            at,
-            out,
-        );
+        page.put_text(b"\" stroke=\"black\" stroke-width=\".12\" stroke-dasharray=\".4 .3\"/>\n");
+    } else {
+        page.put_text(b"\" stroke=\"black\" stroke-width=\".12\"/>\n");
     }
-    put_text(b"\" stroke=\"black\" stroke-width=\".12\"/>\n", at, out)
 }
 
 // The west and the east side.
-fn put_upright(width: usize, height: usize, joined: bool, at: usize, out: &mut [u8]) -> usize
-    ensures { page out.new result ≡ put (upright_text width height joined) (page out.old at) }
+fn put_upright(page: &mut Page, width: usize, height: usize, joined: bool)
+    ensures { Puts (upright_text width height joined) page.old page.new }
 {
-    let a = put_text(b"<path d=\"M0 0V", at, out);
-    let b = put_decimal(height, a, out);
-    let c = put_byte(b'M', b, out);
-    let d = put_decimal(width, c, out);
-    let e = put_text(b" 0V", d, out);
-    let f = put_decimal(height, e, out);
-    put_stroke(joined, f, out)
+    page.put_text(b"<path d=\"M0 0V");
+    page.put_decimal(height);
+    page.put_byte(b'M');
+    page.put_decimal(width);
+    page.put_text(b" 0V");
+    page.put_decimal(height);
+    put_stroke(page, joined);
 }
 
 // The north and the south side.
-fn put_level(width: usize, height: usize, joined: bool, at: usize, out: &mut [u8]) -> usize
-    ensures { page out.new result ≡ put (level_text width height joined) (page out.old at) }
+fn put_level(page: &mut Page, width: usize, height: usize, joined: bool)
+    ensures { Puts (level_text width height joined) page.old page.new }
 {
-    let a = put_text(b"<path d=\"M0 0H", at, out);
-    let b = put_decimal(width, a, out);
-    let c = put_text(b"M0 ", b, out);
-    let d = put_decimal(height, c, out);
-    let e = put_byte(b'H', d, out);
-    let f = put_decimal(width, e, out);
-    put_stroke(joined, f, out)
+    page.put_text(b"<path d=\"M0 0H");
+    page.put_decimal(width);
+    page.put_text(b"M0 ");
+    page.put_decimal(height);
+    page.put_byte(b'H');
+    page.put_decimal(width);
+    put_stroke(page, joined);
 }
 
 // The size of the picture.
-fn put_size(width: usize, height: usize, at: usize, out: &mut [u8]) -> usize
-    ensures { page out.new result ≡ put (size_text width height) (page out.old at) }
+fn put_size(page: &mut Page, width: usize, height: usize)
+    ensures { Puts (size_text width height) page.old page.new }
 {
-    let wide = breadth(width);
-    let high = beneath(height, 21);
-    let a = put_text(
-        b"<svg xmlns=\"http://www.w3.org/2000/svg\" viewBox=\"-1 -2 ",
-        at,
-        out,
-    );
-    let b = put_decimal(wide, a, out);
-    let c = put_byte(b' ', b, out);
-    let d = put_decimal(high, c, out);
-    put_text(b"\" font-family=\"sans-serif\" font-size=\".6\">\n", d, out)
+    page.put_text(b"<svg xmlns=\"http://www.w3.org/2000/svg\" viewBox=\"-1 -2 ");
+    page.put_decimal(breadth(width));
+    page.put_byte(b' ');
+    page.put_decimal(beneath(height, 21));
+    page.put_text(b"\" font-family=\"sans-serif\" font-size=\".6\">\n");
 }
 
 // What hatched and black cells are, by how the run ended.
-fn put_key(end: usize, at: usize, out: &mut [u8]) -> usize
-    ensures { page out.new result ≡ put (key_text end) (page out.old at) }
+#[tactic(auto, using(text::proofs::PageLaws::in_a_row), unfolding(crate::specs::Picture::key_text))]
+fn put_key(page: &mut Page, end: usize)
+    ensures { Puts (key_text end) page.old page.new }
 {
-    put_line(
+    page.put_line(
         b"\n<tspan x=\"0\" dy=\".75\">Hatched cells are undecided and show how many patterns remain.</tspan>\n<tspan x=\"0\" dy=\".75\">Hatched cells are undecided and show how many patterns remain.</tspan>\n<tspan x=\"0\" dy=\".75\">Black cells have no pattern left.</tspan>",
         end,
-        at,
-        out,
-    )
+    );
 }
 
 // How the run ended, below the grid, and what hatched and black cells are.
-fn put_foot(height: usize, end: usize, words: usize, at: usize, out: &mut [u8]) -> usize
-    ensures { page out.new result ≡ put (foot_text height end words) (page out.old at) }
+fn put_foot(page: &mut Page, height: usize, end: usize, words: usize)
+    ensures { Puts (foot_text height end words) page.old page.new }
 {
-    let below = beneath(height, 1);
-    let a = put_text(b"</text>\n<text x=\"0\" y=\"", at, out);
-    let b = put_decimal(below, a, out);
-    let c = put_text(b"\">", b, out);
-    let d = put_end(end, words, c, out);
-    let e = put_key(end, d, out);
-    put_text(b"</text>\n", e, out)
+    page.put_text(b"</text>\n<text x=\"0\" y=\"");
+    page.put_decimal(beneath(height, 1));
+    page.put_text(b"\">");
+    put_end(page, end, words);
+    put_key(page, end);
+    page.put_text(b"</text>\n");
 }
 
 // The start of the picture, up to its cells.
-pub fn put_picture_head(
-    width: usize,
-    height: usize,
-    mode: usize,
-    end: usize,
-    words: usize,
-    at: usize,
-    out: &mut [u8],
-) -> usize
-    ensures { page out.new result ≡ put (head_text width height mode end words) (page out.old at) }
+pub fn put_picture_head(page: &mut Page, ocean: &Ocean)
+    ensures { Puts (head_of ocean.now) page.old page.new }
 {
-    let a = put_size(width, height, at, out);
-    let b = put_text(
+    put_size(page, ocean.width, ocean.height);
+    page.put_text(
         b"<defs><pattern id=\"open\" width=\".3\" height=\".3\" patternUnits=\"userSpaceOnUse\" patternTransform=\"rotate(45)\"><rect width=\".3\" height=\".3\" fill=\"#ddd\"/><rect width=\".1\" height=\".3\" fill=\"#aaa\"/></pattern></defs>\n<text x=\"0\" y=\"-1\" dy=\".4\">",
-        a,
-        out,
     );
-    let c = put_line(
+    page.put_line(
         b"No side is joined to another.\nEast meets west at the dashed sides.\nNorth meets south at the dashed sides.\nEast meets west and north meets south at the dashed sides.",
-        mode,
-        b,
-        out,
+        ocean.mode,
     );
-    put_foot(height, end, words, c, out)
+    put_foot(page, ocean.height, ocean.end, ocean.words);
 }
 
 // ---- the legend
 
 // Where the words beside a pattern's colour begin.
-fn put_beside(x: usize, y: usize, at: usize, out: &mut [u8]) -> usize
-    ensures { page out.new result ≡ put (beside_text x y) (page out.old at) }
+fn put_beside(page: &mut Page, x: usize, y: usize)
+    ensures { Puts (beside_text x y) page.old page.new }
 {
-    let a = put_text(b"\"/><text x=\"", at, out);
-    let b = put_decimal(x, a, out);
-    let c = put_text(b"\" y=\"", b, out);
-    let d = put_decimal(y, c, out);
-    put_text(b"\" dx=\"1.3\" dy=\".7\">pattern ", d, out)
+    page.put_text(b"\"/><text x=\"");
+    page.put_decimal(x);
+    page.put_text(b"\" y=\"");
+    page.put_decimal(y);
+    page.put_text(b"\" dx=\"1.3\" dy=\".7\">pattern ");
 }
 
 // Beside a pattern's colour: its number and name, and in how many cells it stands.
-fn put_caption(
-    x: usize,
-    y: usize,
-    named: bool,
-    p: usize,
-    cells: usize,
-    at: usize,
-    out: &mut [u8],
-) -> usize
-    ensures { page out.new result ≡ put (caption_text x y named p cells) (page out.old at) }
+#[tactic(auto, using(text::proofs::PageLaws::in_a_row), unfolding(crate::specs::Picture::caption_text))]
+fn put_caption(page: &mut Page, x: usize, y: usize, named: bool, p: usize, cells: usize)
+    ensures { Puts (caption_text x y named p cells) page.old page.new }
 {
-    let a = put_beside(x, y, at, out);
-    let b = put_decimal(p, a, out);
-    let c = put_label(named, p, b, out);
-    let d = put_text(b", cells: ", c, out);
-    let e = put_decimal(cells, d, out);
-    put_text(b"</text>\n", e, out)
+    put_beside(page, x, y);
+    page.put_decimal(p);
+    put_label(page, named, p);
+    page.put_text(b", cells: ");
+    page.put_decimal(cells);
+    page.put_text(b"</text>\n");
 }
 
 // A pattern's entry.
-fn put_swatch(
-    height: usize,
-    named: bool,
-    p: usize,
-    cells: usize,
-    at: usize,
-    out: &mut [u8],
-) -> usize
+#[tactic(auto, using(text::proofs::PageLaws::in_a_row), unfolding(crate::specs::Picture::swatch_text))]
+fn put_swatch(page: &mut Page, height: usize, named: bool, p: usize, cells: usize)
     requires { p < 64 }
-    ensures { page out.new result ≡ put (swatch_text height named p cells) (page out.old at) }
+    ensures { Puts (swatch_text height named p cells) page.old page.new }
 {
     let x = p / 16 * 9;
     let y = beneath(height, p % 16 + 2);
-    let a = put_square(x, y, at, out);
-    let b = put_colour(p, a, out);
-    put_caption(x, y, named, p, cells, b, out)
+    put_square(page, x, y);
+    put_colour(page, p);
+    put_caption(page, x, y, named, p, cells);
 }
 
 // The entry of a pattern that stands in some cell.
-fn put_shown(
-    height: usize,
-    named: bool,
-    domains: &[u64],
-    p: usize,
-    at: usize,
-    out: &mut [u8],
-) -> usize
+#[tactic(auto, using(text::proofs::PageLaws::in_a_row), unfolding(crate::specs::Picture::shown_text))]
+fn put_shown(page: &mut Page, height: usize, named: bool, domains: &[u64], p: usize)
     requires { p < 64 }
-    ensures { page out.new result ≡ put (shown_text height named domains.now p) (page out.old at) }
+    ensures { Puts (shown_text height named domains.now p) page.old page.new }
 {
     let cells = count_alike(domains, words::inner::lone_pattern(p));
-    if cells == 0 {
-        return at;
+    if cells != 0 {
+        put_swatch(page, height, named, p, cells);
     }
-    put_swatch(height, named, p, cells, at, out)
 }
 
 // The entries.
-fn put_swatches(height: usize, named: bool, domains: &[u64], at: usize, out: &mut [u8]) -> usize
-    ensures { page out.new result ≡ put (texts (shown_text height named domains.now) 0 64) (page out.old at) }
+#[tactic(auto, using(text::proofs::PageLaws::turns))]
+fn put_swatches(page: &mut Page, height: usize, named: bool, domains: &[u64])
+    ensures { Puts (texts (shown_text height named domains.now) 0 64) page.old page.new }
 {
-    let mut next = at;
-    let mut p = 0;
-    while p < 64 {
-        next = put_shown(height, named, domains, p, next, out);
-        p += 1;
+    for p in 0..64 {
+        put_shown(page, height, named, domains, p);
     }
-    next
 }
 
 // The end of the picture: the sides over the cells, and the legend.
-pub fn put_picture_tail(
-    width: usize,
-    height: usize,
-    mode: usize,
-    named: bool,
-    domains: &[u64],
-    at: usize,
-    out: &mut [u8],
-) -> usize
-    ensures { page out.new result ≡ put (tail_text width height mode named domains.now) (page out.old at) }
+#[tactic(auto, using(text::proofs::PageLaws::in_a_row), unfolding(crate::specs::Picture::tail_text))]
+pub fn put_picture_tail(page: &mut Page, ocean: &Ocean)
+    ensures { Puts (tail_of ocean.now) page.old page.new }
 {
-    let along = joins_x(mode);
-    let across = joins_y(mode);
-    let a = put_upright(width, height, along, at, out);
-    let b = put_level(width, height, across, a, out);
-    let c = put_swatches(height, named, domains, b, out);
-    put_text(b"</svg>\n", c, out)
+    put_upright(page, ocean.width, ocean.height, joins_x(ocean.mode));
+    put_level(page, ocean.width, ocean.height, joins_y(ocean.mode));
+    put_swatches(page, ocean.height, ocean.named, ocean.domains);
+    page.put_text(b"</svg>\n");
 }

@@ -3,13 +3,16 @@
 #![tactic(auto)]
 
 ghost use Rattle.std.specs.Prelude.{◌≡◌};
-ghost use Rattle.text.specs.Pages.{page, put};
+ghost use Rattle.text.specs.Pages.{Puts};
 ghost use Rattle.practice.specs.Bytes.{bytes};
 ghost use Rattle.practice.specs.Names.{name_of};
 
 mod bytes;
 
+use text::Page;
+
 // The sheet.
+#[tactic(auto, unfolding(crate::specs::Bytes::bytes))]
 pub fn sheet() -> [u8; 746]
     ensures { result ≡ bytes }
 {
@@ -17,13 +20,12 @@ pub fn sheet() -> [u8; 746]
 }
 
 // The name of a pattern of the practice ocean.
-pub fn put_name(p: usize, at: usize, out: &mut [u8]) -> usize
-    ensures { page out.new result ≡ put (name_of p) (page out.old at) }
+#[tactic(auto, unfolding(crate::specs::Names::name_of))]
+pub fn put_name(page: &mut Page, p: usize)
+    ensures { Puts (name_of p) page.old page.new }
 {
-    text::put_line(
+    page.put_line(
         b"arctic pack ice\npolar easterlies\nnorthern westerlies\nnorthern horse latitudes\nnorth-east trades\nsqualls\ndoldrums\nsouth-east trades\nsouthern horse latitudes\nroaring forties\ngales\nantarctic pack ice",
         p,
-        at,
-        out,
-    )
+    );
 }

@@ -1,12 +1,12 @@
 -- Laws of writing: parts one after the other are the whole, and a whole from the front is what stands over the rest.
 -- Assumes nothing.
-use mathlib.Core.List.{List, [], ◌∷◌, ◌++◌, append-nil}
+use mathlib.Core.List.{List, [], ◌∷◌, ◌++◌, append-nil, append_assoc}
 use mathlib.Core.Path.{◌≡◌, refl, sym, ap, ◌∙◌}
-use Prim.Native.Nat.{ℕ, suc, ◌+◌, ◌≤◌, ◌<◌}
-use native.Mathlib.Numerals.{add-one}
+use Prim.Native.Nat.{ℕ, suc, ◌+◌, ◌-◌, ◌≤◌}
 use native.Mathlib.Omega.{arith}
-use lib.ListN.{length, get_or, drop, set, length-append, drop_of_length-le}
-use lib.Seq.{sets, sets-eq, length-sets, drop-cons}
+use lib.ListN.{length, drop, take, set, length-append, drop_of_length-le}
+use lib.Seq.{sets, sets-eq, length-sets, drop-drop}
+use borrow.Rule.Slice.PartMut.{put_mid}
 use Rattle.records.specs.Laying.{over, Pen, pen, laid}
 
 -- a list that is written in two parts
@@ -84,12 +84,14 @@ laid-room rest whole out old place at e = (
   sym (laid-place rest (pen out place)) ∙ ap (λ (p : Pen). p.place) e ∙ laid-place whole (pen old at),
 )
 
--- a loop that copies: a turn, and the end
-module _ (bytes out : List ℕ) (at i : ℕ) where
-  pub copy-turn : i < length bytes → sets (set out (at + i) (get_or bytes i 0)) (at + (i + 1)) (drop (i + 1) bytes) ≡ sets out (at + i) (drop i bytes)
-  copy-turn h =
-      let j : at + (i + 1) ≡ suc (at + i) = omega arith in
-      rw (j, add-one i, drop-cons bytes i 0 h)
+-- what was written are the bytes that it is said to be
+pub laid_as : (p : Pen) {bytes new : List ℕ} {q : Pen} → q ≡ laid bytes p → bytes ≡ new → q ≡ laid new p
+laid_as p e f = e ∙ ap (λ (l : List ℕ). laid l p) f
 
-  pub copy-end : length bytes ≤ i → sets out (at + i) (drop i bytes) ≡ out
-  copy-end h = rw (drop_of_length-le bytes h)
+-- a part that is copied to its place
+pub laid-part : (bytes part out : List ℕ) (at : ℕ) → at + length bytes ≤ length out → part ≡ bytes
+    → pen (put_mid at (at + length bytes - at) out part) (at + length bytes) ≡ laid bytes (pen out at)
+unfolding laid
+laid-part bytes part out at h e =
+    let size : at + length bytes - at ≡ length bytes = omega arith in
+    ap (λ (l : List ℕ). pen l (at + length bytes)) (rw (e, size, sets-eq bytes out at h, drop-drop (length bytes) at out, append_assoc (take at out) bytes (drop (at + length bytes) out)))

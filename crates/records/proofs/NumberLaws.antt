@@ -7,9 +7,9 @@ use native.Mathlib.Numerals.{add-one}
 use native.Mathlib.Omega.{arith}
 use lib.ListN.{length, get_or, set, drop, length-drop, drop_of_length-le}
 use lib.Seq.{drop-cons, sets}
-use Rattle.records.specs.Numbers.{u16, u32, u64, u16s, u64s, u16At, numbers_in}
-use Rattle.records.specs.Laying.{pen, laid}
-use Rattle.records.proofs.LayingLaws.{laid-append, laid_none}
+use mir.Syntax.{w16, w32, w64}
+use Rattle.std.specs.Int.{to_le_bytes}
+use Rattle.records.specs.Numbers.{u16, u32, u64, u16s, u64s, u16At, u32_at, numbers_in}
 
 pub length-u16 : (n : ℕ) → length (u16 n) ≡ 2
 unfolding u16
@@ -50,17 +50,39 @@ numbers_in_next b k h =
     let one : k + 1 ≡ suc k = omega arith in
     rw (two, one, drop-cons b k 0 (omega arith), drop-cons b (suc k) 0 (omega arith))
 
--- a loop that writes numbers: a turn, and the end
-module _ (ns out : List ℕ) (place i : ℕ) where
-  pub lay-turn : i < length ns → {out' : List ℕ} {place' : ℕ} → pen out' place' ≡ laid (u16 (get_or ns i 0)) (pen out place)
-      → laid (u16s (drop (i + 1) ns)) (pen out' place') ≡ laid (u16s (drop i ns)) (pen out place)
-  unfolding u16s
-  lay-turn h e =
-      rw (add-one i, drop-cons ns i 0 h, e) (sym (laid-append (u16 (get_or ns i 0)) (u16s (drop (suc i) ns)) (pen out place)))
+-- the numbers from number i on
+pub u16s_next : (ns : List ℕ) (i : ℕ) → i < length ns → u16s (drop i ns) ≡ u16 (get_or ns i 0) ++ u16s (drop (i + 1) ns)
+unfolding u16s
+u16s_next ns i h = rw (add-one i, drop-cons ns i 0 h)
 
-  pub lay-end : length ns ≤ i → pen out place ≡ laid (u16s (drop i ns)) (pen out place)
-  unfolding u16s
-  lay-end h = rw (drop_of_length-le ns h) (sym (laid_none (pen out place)))
+pub u16s_none : (ns : List ℕ) (i : ℕ) → length ns ≤ i → u16s (drop i ns) ≡ []
+unfolding u16s
+u16s_none ns i h = rw (drop_of_length-le ns h)
+
+-- the bytes of the library's `to_le_bytes` are those of the specification
+next : {x y : ℕ} {xs ys : List ℕ} → x ≡ y → xs ≡ ys → x ∷ xs ≡ y ∷ ys
+next e f = rw (e, f)
+
+pub le_bytes-u16 : (n : ℕ) → n < 65536 → to_le_bytes w16 n ≡ u16 n
+unfolding u16
+le_bytes-u16 n h = next refl (next (omega arith) refl)
+
+pub le_bytes-u32 : (n : ℕ) → n < 4294967296 → to_le_bytes w32 n ≡ u32 n
+unfolding u32 u16
+le_bytes-u32 n h = next (omega arith) (next (omega arith) (next (omega arith) (next (omega arith) refl)))
+
+pub le_bytes-u64 : (n : ℕ) → n < 18446744073709551616 → to_le_bytes w64 n ≡ u64 n
+unfolding u64 u32 u16
+le_bytes-u64 n h =
+    next (omega arith) (next (omega arith) (next (omega arith) (next (omega arith) (next (omega arith) (next (omega arith) (next (omega arith) (next (omega arith) refl)))))))
+
+-- the number of four bytes, each worth 256 times the one before it
+pub u32-bytes : (b : List ℕ) (k : ℕ)
+    → get_or b k 0 + get_or b (k + 1) 0 * 256 + get_or b (k + 2) 0 * 65536 + get_or b (k + 3) 0 * 16777216 ≡ u32_at b k
+unfolding u32_at u16At
+u32-bytes b k =
+    let e : k + 3 ≡ k + 2 + 1 = omega arith in
+    rw e (omega arith)
 
 -- a loop that reads numbers: a turn, and the end
 module _ (b out : List ℕ) (i : ℕ) where

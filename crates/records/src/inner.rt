@@ -7,19 +7,12 @@ ghost use Rattle.records.specs.Laying.{pen, laid};
 
 // ---- reading
 
-// A byte as an index.
-pub fn wide(x: u8) -> usize
-    ensures { (result ≡ x) × (result < 256) }
-{
-    x as usize
-}
-
 // The number of the two bytes from `at` on.
 pub fn u16_at(bytes: &[u8], at: usize) -> usize
     requires { at + 2 ≤ length bytes.now }
     ensures { (result ≡ u16At bytes.now at) × (result < 65536) }
 {
-    wide(bytes[at]) + 256 * wide(bytes[at + 1])
+    usize::from(u16::from_le_bytes([bytes[at], bytes[at + 1]]))
 }
 
 // The number of the four bytes from `at` on.
@@ -27,7 +20,7 @@ pub fn u32_at(bytes: &[u8], at: usize) -> usize
     requires { at + 4 ≤ length bytes.now }
     ensures { (result ≡ u32_at bytes.now at) × (result < 4294967296) }
 {
-    u16_at(bytes, at) + 65536 * u16_at(bytes, at + 2)
+    u32::from_le_bytes([bytes[at], bytes[at + 1], bytes[at + 2], bytes[at + 3]]) as usize
 }
 
 // Whether the bytes begin with a record of a kind; lengths are compared by what is left, so that no sum can wrap.
@@ -70,51 +63,19 @@ pub fn read_numbers(bytes: &[u8], out: &mut [u32])
     requires { length bytes.now ≤ 2 * length out.old }
     ensures { out.new ≡ sets out.old 0 (numbers_in bytes.now) }
 {
-    let mut i = 0;
-    while i < bytes.len() / 2 {
-        out[i] = small(u16_at(bytes, 2 * i));
-        i += 1;
+    for i in 0..bytes.len() / 2 {
+        out[i] = u16_at(bytes, 2 * i) as u32;
     }
 }
 
-// A number of two bytes as it is lent.
-fn small(x: usize) -> u32
-    requires { x < 65536 }
-    ensures { result ≡ x }
-{
-    x as u32
-}
-
 // ---- writing: each answers the place past what it wrote
-
-// A number as a byte.
-fn narrow(x: usize) -> u8
-    requires { x < 256 }
-    ensures { result ≡ x }
-{
-    x as u8
-}
-
-// A number as an index.
-fn plain(x: u32) -> usize
-    ensures { result ≡ x }
-{
-    x as usize
-}
-
-// A word as a number; no bit is lost, since an index has 64.
-fn whole(x: u64) -> usize
-    ensures { (result ≡ x) × (result < 18446744073709551616) }
-{
-    x as usize
-}
 
 // One byte.
 pub fn lay_byte(number: usize, out: &mut [u8], at: usize) -> usize
     requires { (number < 256) × (at + 1 ≤ length out.old) }
     ensures { pen out.new result ≡ laid (number ∷ []) (pen out.old at) }
 {
-    out[at] = narrow(number);
+    out[at] = number as u8;
     at + 1
 }
 
@@ -123,28 +84,7 @@ pub fn lay_u16(number: usize, out: &mut [u8], at: usize) -> usize
     requires { (number < 65536) × (at + 2 ≤ length out.old) }
     ensures { pen out.new result ≡ laid (u16 number) (pen out.old at) }
 {
-    out[at] = narrow(number % 256);
-    out[at + 1] = narrow(number / 256);
-    at + 2
-}
-
-// A number as four bytes.
-fn lay_u32(number: usize, out: &mut [u8], at: usize) -> usize
-    requires { (number < 4294967296) × (at + 4 ≤ length out.old) }
-    ensures { pen out.new result ≡ laid (u32 number) (pen out.old at) }
-{
-    let place = lay_u16(number % 65536, out, at);
-    lay_u16(number / 65536, out, place)
-}
-
-// A word as eight bytes.
-fn lay_u64(word: u64, out: &mut [u8], at: usize) -> usize
-    requires { at + 8 ≤ length out.old }
-    ensures { pen out.new result ≡ laid (u64 word) (pen out.old at) }
-{
-    let number = whole(word);
-    let place = lay_u32(number % 4294967296, out, at);
-    lay_u32(number / 4294967296, out, place)
+    lay_bytes(&(number as u16).to_le_bytes(), out, at)
 }
 
 // The head of a record whose payload has `size` bytes.
@@ -152,7 +92,7 @@ pub fn lay_head(kind: usize, size: usize, out: &mut [u8], at: usize) -> usize
     requires { (kind < 65536) × (size < 4294967294) × (at + 6 ≤ length out.old) }
     ensures { pen out.new result ≡ laid (head_of kind size) (pen out.old at) }
 {
-    let place = lay_u32(2 + size, out, at);
+    let place = lay_bytes(&(2 + size as u32).to_le_bytes(), out, at);
     lay_u16(kind, out, place)
 }
 
@@ -161,12 +101,9 @@ pub fn lay_bytes(bytes: &[u8], out: &mut [u8], at: usize) -> usize
     requires { at + length bytes.now ≤ length out.old }
     ensures { pen out.new result ≡ laid bytes.now (pen out.old at) }
 {
-    let mut i = 0;
-    while i < bytes.len() {
-        out[at + i] = bytes[i];
-        i += 1;
-    }
-    at + bytes.len()
+    let end = at + bytes.len();
+    out[at..end].copy_from_slice(bytes);
+    end
 }
 
 // Numbers as two bytes each.
@@ -175,10 +112,8 @@ pub fn lay_numbers(numbers: &[u32], out: &mut [u8], at: usize) -> usize
     ensures { pen out.new result ≡ laid (u16s numbers.now) (pen out.old at) }
 {
     let mut place = at;
-    let mut i = 0;
-    while i < numbers.len() {
-        place = lay_u16(plain(numbers[i]), out, place);
-        i += 1;
+    for number in numbers {
+        place = lay_u16(*number as usize, out, place);
     }
     place
 }
@@ -189,10 +124,8 @@ pub fn lay_words(words: &[u64], out: &mut [u8], at: usize) -> usize
     ensures { pen out.new result ≡ laid (u64s words.now) (pen out.old at) }
 {
     let mut place = at;
-    let mut i = 0;
-    while i < words.len() {
-        place = lay_u64(words[i], out, place);
-        i += 1;
+    for word in words {
+        place = lay_bytes(&word.to_le_bytes(), out, place);
     }
     place
 }

@@ -1,6 +1,6 @@
 -- What an answer of a run tells is one to one, so no second outcome meets the contract of a run. Follows docs/RULES.md, "Run".
-use mathlib.Core.List.{List, ◌∷◌, []}
-use mathlib.Core.Path.{◌≡◌, refl, sym, ap, ◌∙◌}
+use mathlib.Core.List.{List}
+use mathlib.Core.Path.{◌≡◌, sym, ap, ◌∙◌}
 use Prim.Native.Nat.{ℕ}
 use Rattle.refusals.specs.Refusals.{Asked, refused, answer}
 use Rattle.forbids.specs.declared.Forbid.{Forbid}

@@ -10,6 +10,7 @@ ghost use Rattle.course.specs.Called.{memory, outcome, called};
 ghost use Rattle.run.specs.Answers.{answer_told};
 
 use forbids::Forbid;
+use grid::Grid;
 use refusals::Refusal;
 
 mod check;
@@ -43,7 +44,12 @@ pub fn run(
         ≡ called (given (table count offsets.now ids.now) weights.now (grid width height mode) noise.now) forbids.now words.now
         (memory domains.old counts.old pending.old floats.old marks.old) }
 {
-    let bad = forbids::inner::check_all(forbids, count, width, height);
+    let grid = Grid {
+        width,
+        height,
+        mode,
+    };
+    let bad = forbids::inner::check_all(forbids, count, grid);
     inner::begin(
         bad,
         forbids.len(),

@@ -11,6 +11,7 @@ ghost use Rattle.run.specs.Stages.{state_in, stage_of, standing, Standing, lay_a
 
 use crate::Stop;
 use crate::inner::{begin, conclude, contradict, lay_one};
+use grid::Grid;
 use refusals::Refusal;
 
 // The forbids are laid in order, until one empties a cell; whether one did.
@@ -87,7 +88,12 @@ pub fn run_numbers(
         ≡ called_numbers (given (table count offsets.now ids.now) weights.now (grid width height mode) noise.now) forbids.now words.now
         (memory domains.old counts.old pending.old floats.old marks.old) }
 {
-    let bad = forbids::inner::judge_all(forbids, count, width, height);
+    let grid = Grid {
+        width,
+        height,
+        mode,
+    };
+    let bad = forbids::inner::judge_all(forbids, count, grid);
     let lent = forbids::inner::records_in(forbids);
     begin(
         bad, lent, count, width, height, mode, weights, offsets, ids, noise, words, domains,

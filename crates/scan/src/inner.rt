@@ -2,8 +2,6 @@
 ghost use Rattle.std.specs.Prelude.{◌≡◌, ℕ, ◌<◌, get_or};
 ghost use Rattle.scan.specs.Scanning.{passing, listing, within, counted, gridding, forbidding, holding, headed, listed, kind_fits, forbidden, step, start, past, formed, bad};
 
-use records::inner::wide;
-
 // Where in a sheet the next byte stands, and what has to be known of the bytes before it.
 #[derive(Clone, Copy)]
 pub enum Scan {
@@ -94,20 +92,16 @@ fn forbidding(left: usize) -> Scan
     Scan::Forbids(left)
 }
 
-// The payload of the record of a kind, of so many bytes.
+// The payload of the record of a kind, of so many bytes. A kind is the number that stands in the sheet (docs/RULES.md), which `headed` holds to a byte.
 fn holding(kind: usize, lists: usize, left: usize) -> Scan
     ensures { result ≡ holding kind lists left }
 {
-    if kind == 1 {
-        return Scan::Count(left);
+    match kind {
+        1 => Scan::Count(left),
+        2 => listing(left, lists),
+        3 => gridding(left),
+        _ => forbidding(left),
     }
-    if kind == 2 {
-        return listing(left, lists);
-    }
-    if kind == 3 {
-        return gridding(left);
-    }
-    forbidding(left)
 }
 
 // ---- what a byte makes of it
@@ -149,13 +143,11 @@ fn listed(left: usize, lists: usize, x: usize) -> Scan
 fn kind_fits(place: usize, x: usize) -> bool
     ensures { result ≡ kind_fits place x }
 {
-    if place == 2 {
-        return x <= 1;
+    match place {
+        2 => x <= 1,
+        1 => x == 0,
+        _ => true,
     }
-    if place == 1 {
-        return x == 0;
-    }
-    true
 }
 
 // A byte of the forbids.
@@ -177,13 +169,13 @@ fn step(x: u8, state: Scan) -> Scan
 {
     match state {
         Scan::Bad => Scan::Bad,
-        Scan::Head(kind, lists, at, size) => headed(kind, lists, at, size, wide(x)),
+        Scan::Head(kind, lists, at, size) => headed(kind, lists, at, size, usize::from(x)),
         Scan::Count(left) => Scan::High(left, x),
-        Scan::High(left, low) => counted(left, wide(low) + 256 * wide(x)),
+        Scan::High(left, low) => counted(left, usize::from(u16::from_le_bytes([low, x]))),
         Scan::Pass(left, kind, lists) => passing(left, kind, lists),
-        Scan::Lists(left, lists) => listed(left, lists, wide(x)),
+        Scan::Lists(left, lists) => listed(left, lists, usize::from(x)),
         Scan::Ids(ids, left, lists) => within(ids, left, lists),
-        Scan::Forbids(left) => forbidden(left, wide(x)),
+        Scan::Forbids(left) => forbidden(left, usize::from(x)),
     }
 }
 
@@ -201,10 +193,8 @@ pub fn past(state: Scan, bytes: &[u8]) -> Scan
     ensures { (result ≡ past state bytes.now) × ((k : ℕ) → get_or bytes.now k 0 < 256) }
 {
     let mut reached = state;
-    let mut i = 0;
-    while i < bytes.len() {
-        reached = step(bytes[i], reached);
-        i += 1;
+    for byte in bytes {
+        reached = step(*byte, reached);
     }
     reached
 }
@@ -213,18 +203,15 @@ pub fn past(state: Scan, bytes: &[u8]) -> Scan
 pub fn formed(state: Scan) -> bool
     ensures { result ≡ formed state }
 {
-    let Scan::Forbids(left) = state else {
-        return false;
-    };
-    left == 0
+    match state {
+        Scan::Forbids(left) => left == 0,
+        _ => false,
+    }
 }
 
 // Whether they are known to be none, whatever follows.
 pub fn bad(state: Scan) -> bool
     ensures { result ≡ bad state }
 {
-    let Scan::Bad = state else {
-        return false;
-    };
-    true
+    matches!(state, Scan::Bad)
 }

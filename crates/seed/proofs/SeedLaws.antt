@@ -1,14 +1,8 @@
--- Laws of the words of a seed: a product of two numbers of 32 bits fits 64, and a word more is the counter's next value, mixed.
+-- Laws of the words of a seed: a word more is the counter's next value, mixed.
 -- Assumes nothing.
-use Rattle.std.proofs.Common.{◌≡◌, ℕ, suc, ◌+◌, ◌*◌, ◌/◌, ◌%◌, ◌^◌, ◌<◌, ◌≤◌, List, [], ◌∷◌, ◌++◌, length, take, set, refl, ap, ◌∙◌, lt_of_le_of_lt, le_of_lt, mul-le-mul_left, mul-lt-mul_of_pos_right, add-one, arith, take_all, take-suc-set, pow_pos, pow-add}
-use mathlib.Core.Path.{subst⁻¹}
+use Rattle.std.proofs.Common.{◌≡◌, ℕ, suc, ◌+◌, ◌*◌, ◌/◌, ◌%◌, ◌^◌, ◌<◌, ◌≤◌, List, [], ◌∷◌, ◌++◌, length, take, set, refl, ap, ◌∙◌, add-one, arith, take_all, take-suc-set}
 use lib.Bits.{bit_xor}
 use Rattle.seed.specs.Seeds.{stepped, after, laid, scaled, mixed, words_of, Strip, strip, drawn, both, drawn_both}
-
-pub product-fits : (k : ℕ) {a b : ℕ} → a < 2 ^ k → b < 2 ^ k → a * b < 2 ^ (k + k)
-product-fits k {a} {b} ha hb =
-    subst⁻¹ (λ (n : ℕ). a * b < n) (pow-add 2 k k)
-    (lt_of_le_of_lt (mul-le-mul_left a (le_of_lt hb)) (mul-lt-mul_of_pos_right ha (pow_pos k)))
 
 -- the steps of the mixer, one after the other
 pub mixed-steps : (x a b c d : ℕ) → a ≡ bit_xor x (x / 2 ^ 16) → b ≡ a * 2246822507 % 2 ^ 32 → c ≡ bit_xor b (b / 2 ^ 13) → d ≡ c * 3266489909 % 2 ^ 32

@@ -3,7 +3,7 @@ use Rattle.std.proofs.Common.{◌≡◌, ℕ, ◌+◌, ◌*◌, ◌<◌, ◌≤�
 use Rattle.seed.specs.Strips.{word_at, words_in}
 
 pub word_of : (bytes : List ℕ) (i a b c d : ℕ) → a ≡ get_or bytes i 0 → b ≡ get_or bytes (i + 1) 0 → c ≡ get_or bytes (i + 2) 0 → d ≡ get_or bytes (i + 3) 0
-    → a + 256 * b + 65536 * c + 16777216 * d ≡ word_at bytes i
+    → a + b * 256 + c * 65536 + d * 16777216 ≡ word_at bytes i
 unfolding word_at
 word_of bytes i a b c d e f g h = omega arith
 

@@ -8,13 +8,6 @@ ghost use Rattle.std.specs.Prelude.{◌≡◌, ◌+◌, ◌*◌, ◌/◌, ◌%�
 ghost use Rattle.seed.specs.Seeds.{stepped, mixed, strip, drawn, both, drawn_both};
 ghost use Rattle.seed.specs.Strips.{word_at, words_in};
 
-// A product, of which the lowest 32 bits are kept.
-fn times(x: u32, factor: u32) -> u32
-    ensures { result ≡ x * factor % 2 ^ 32 }
-{
-    ((x as u64) * (factor as u64) % 4294967296) as u32
-}
-
 // The bits, with the upper ones laid over the lower.
 fn folded(x: u32, by: u32) -> u32
     requires { by < 32 }
@@ -27,8 +20,8 @@ fn folded(x: u32, by: u32) -> u32
 fn mix(x: u32) -> u32
     ensures { result ≡ mixed x }
 {
-    let once = times(folded(x, 16), 0x85eb_ca6b);
-    let twice = times(folded(once, 13), 0xc2b2_ae35);
+    let once = folded(x, 16).wrapping_mul(0x85eb_ca6b);
+    let twice = folded(once, 13).wrapping_mul(0xc2b2_ae35);
     folded(twice, 16)
 }
 
@@ -36,7 +29,7 @@ fn mix(x: u32) -> u32
 fn step(state: u32) -> u32
     ensures { result ≡ stepped state }
 {
-    std::num::wrapping_add_u32(state, 0x9e37_79b9)
+    state.wrapping_add(0x9e37_79b9)
 }
 
 // Fills what is lent with words that follow from the state, and answers the state after them.
@@ -44,11 +37,9 @@ fn fill(state: u32, out: &mut [u32]) -> u32
     ensures { strip out.new result ≡ drawn state (length out.old) }
 {
     let mut now = state;
-    let mut i = 0;
-    while i < out.len() {
+    for word in out {
         now = step(now);
-        out[i] = mix(now);
-        i += 1;
+        *word = mix(now);
     }
     now
 }
@@ -62,11 +53,10 @@ pub fn fill_both(seed: u32, noise: &mut [u32], words: &mut [u32])
 }
 
 // A byte of the file, and 0 past its end.
-fn byte_at(bytes: &[u8], i: usize) -> u32
-    ensures value { result ≡ slice_index bytes.now i }
-    ensures upper_bound { result < 256 }
+fn byte_at(bytes: &[u8], i: usize) -> u8
+    ensures { result ≡ slice_index bytes.now i }
 {
-    if i < bytes.len() { bytes[i] as u32 } else { 0 }
+    bytes.get(i).copied().unwrap_or(0)
 }
 
 // The word that starts at a byte, lowest byte first.
@@ -78,16 +68,14 @@ fn word_at(bytes: &[u8], i: usize) -> u32
     let b = byte_at(bytes, i + 1);
     let c = byte_at(bytes, i + 2);
     let d = byte_at(bytes, i + 3);
-    a + 256 * b + 65536 * c + 16777216 * d
+    u32::from_le_bytes([a, b, c, d])
 }
 
 // Fills what is lent with the words of a file, four bytes each; past the file's end they are 0.
 pub fn read(bytes: &[u8], out: &mut [u32])
     ensures { out.new ≡ words_in bytes.now (length out.old) }
 {
-    let mut i = 0;
-    while i < out.len() {
-        out[i] = word_at(bytes, 4 * i);
-        i += 1;
+    for (i, word) in out.iter_mut().enumerate() {
+        *word = word_at(bytes, 4 * i);
     }
 }

@@ -15,7 +15,7 @@ use Rattle.adjacency.specs.Checks.{bad_count, weights_misfit, offsets_misfit, ov
 use Rattle.grid.specs.Grid.{Grid, grid, bad_size, bad_wrap}
 use Rattle.forbids.specs.Forbids.{forbid_tests, forbids_of, records_in}
 use Rattle.refusals.specs.declared.Refusal.TheVariants.{BadSheet, BadLength}
-use Rattle.refusals.specs.Refusals.{Test, ◌gives◌, number, number_of, first_of, refused, answer}
+use Rattle.refusals.specs.Refusals.{◌gives◌, number, number_of, first_of, refused, answer}
 use Rattle.sheet.specs.declared.Measures.{Measures}
 use Rattle.std.specs.Prelude.{Ok, Err}
 use Rattle.layout.specs.Sheet.{bytes_of}

@@ -2,7 +2,7 @@
 -- Assumes nothing.
 use mathlib.Core.Bool.{Bool, true, false, ◌||◌}
 use mathlib.Core.List.{List, ◌++◌}
-use mathlib.Core.Path.{◌≡◌, refl, sym, ap, ◌∙◌, subst}
+use mathlib.Core.Path.{◌≡◌, refl, sym, ap, ◌∙◌}
 use Prim.Native.Nat.{ℕ, zero, suc, ◌+◌, ◌*◌, ◌≤◌, ◌<◌}
 use native.Mathlib.Omega.{arith}
 use lib.ListN.{length, length-append}
@@ -15,7 +15,7 @@ use Rattle.refusals.specs.declared.Refusal.TheVariants.{BadLength}
 use Rattle.refusals.specs.Refusals.{first_of, number, number_of, Asked, refused, answer}
 use Rattle.grid.specs.Grid.{Grid, cells}
 use Rattle.forbids.specs.declared.Forbid.{Forbid}
-use Rattle.std.specs.Prelude.{Result, Ok, Err}
+use Rattle.std.specs.Prelude.{Result, Err}
 use Rattle.collapse.specs.declared.Stop.{Stop}
 use Rattle.course.specs.Run.{Given, ended, run_of}
 use Rattle.course.specs.Called.{Memory, room_of, bad_lengths, base_tests, tests_of, End, Outcome, outcome, finished, outcome_at, called_of, called_numbers}

@@ -8,6 +8,8 @@ ghost use Rattle.grid.specs.Grid.{grid};
 ghost use Rattle.layout.specs.Lending.{lent};
 ghost use Rattle.sheet.specs.Called.{sizes_told, sizes_asked, read_outcome, read_called, written_told, write_outcome, write_called};
 
+use adjacency::inner::Table;
+use grid::Grid;
 use refusals::Refusal;
 
 mod check;
@@ -53,7 +55,12 @@ pub fn read(
         return Err(Refusal::BadSheet);
     }
     let m = reading::measure(sheet);
-    check::judge_scalars(m.count, m.width, m.height, m.mode)?;
+    let grid = Grid {
+        width: m.width,
+        height: m.height,
+        mode: m.mode,
+    };
+    check::judge_scalars(m.count, grid)?;
     if check::read_misfit(m, weights.len(), offsets.len(), ids.len(), forbids.len()) {
         return Err(Refusal::BadLength);
     }
@@ -78,12 +85,20 @@ pub fn write(
     ensures { write_outcome (written_told result) out.new
         ≡ write_called (table count offsets.now ids.now) weights.now (grid width height mode) forbids.now out.old }
 {
-    check::judge_scalars(count, width, height, mode)?;
-    if check::write_misfit(count, weights, offsets, ids, forbids, out.len()) {
+    let table = Table {
+        count,
+        offsets,
+        ids,
+    };
+    let grid = Grid {
+        width,
+        height,
+        mode,
+    };
+    check::judge_scalars(count, grid)?;
+    if check::write_misfit(&table, weights, forbids, out.len()) {
         return Err(Refusal::BadLength);
     }
-    check::judge_content(count, weights, offsets, ids, width, height, mode, forbids)?;
-    Ok(layout::inner::writing::lay_sheet(
-        count, weights, offsets, ids, width, height, mode, forbids, out,
-    ))
+    check::judge_content(&table, weights, grid, forbids)?;
+    Ok(layout::inner::writing::lay_sheet(&table, weights, grid, forbids, out))
 }

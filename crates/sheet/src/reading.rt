@@ -7,6 +7,8 @@ ghost use Rattle.sheet.specs.Called.{content_tests, measured};
 
 use crate::Measures;
 use crate::check::judge_content;
+use adjacency::inner::Table;
+use grid::Grid;
 use layout::inner::filling::fill;
 use layout::inner::shape::{count_of, forbids_of, grid_of, lists_of};
 use records::inner::u16_at;
@@ -48,14 +50,15 @@ pub(crate) fn judge_sheet(sheet: &[u8]) -> Result<(), Refusal>
     let starts = 4 * count + 1;
     let last = m.ids;
     let numbers = 3 * m.forbids;
-    judge_content(
+    let table = Table {
         count,
-        &weights[..count],
-        &offsets[..starts],
-        &ids[..last],
-        m.width,
-        m.height,
-        m.mode,
-        &forbids[..numbers],
-    )
+        offsets: &offsets[..starts],
+        ids: &ids[..last],
+    };
+    let grid = Grid {
+        width: m.width,
+        height: m.height,
+        mode: m.mode,
+    };
+    judge_content(&table, &weights[..count], grid, &forbids[..numbers])
 }

@@ -10,6 +10,7 @@ ghost use Rattle.run.specs.Answers.{answer_told};
 ghost use Rattle.collapse.specs.Endings.{end_number};
 ghost use Rattle.sheet.specs.Result.{result_of, result_outcome, result_called};
 
+use grid::Grid;
 use records::inner::{lay_head, lay_u16, lay_words};
 use refusals::Refusal;
 use run::Stop;
@@ -50,8 +51,13 @@ pub fn run_result(
         ≡ result_called (given (table count offsets.now ids.now) weights.now (grid width height mode) noise.now) forbids.now words.now
         (memory domains.old counts.old pending.old floats.old marks.old) out.old }
 {
-    crate::check::judge_scalars(count, width, height, mode)?;
-    if out.len() < 10 + 8 * (height * width) {
+    let grid = Grid {
+        width,
+        height,
+        mode,
+    };
+    crate::check::judge_scalars(count, grid)?;
+    if out.len() < 10 + 8 * grid.cells() {
         return Err(Refusal::BadLength);
     }
     let stop = run::run_numbers(

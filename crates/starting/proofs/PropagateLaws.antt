@@ -2,7 +2,6 @@
 -- a refusal changes nothing, and no second outcome fits. Follows docs/RULES.md, "Propagation" and "Refusals". Assumes nothing.
 use mathlib.Core.Bool.{Bool, true, false}
 use mathlib.Core.List.{List}
-use mathlib.Core.Option.{some}
 use mathlib.Core.Path.{◌≡◌, refl, sym, ap, subst, ◌∙◌}
 use Prim.Native.Nat.{ℕ, zero, suc, ◌<◌}
 use lib.ListN.{length, get_or, replicate}
@@ -14,7 +13,7 @@ use Rattle.grid.specs.Grid.{Grid, cells, neighbour}
 use Rattle.consistency.specs.Domains.{possible, Fit, Sub, emptied}
 use Rattle.consistency.specs.Consistent.{Greatest}
 use Rattle.consistency.specs.Forget.{nothing}
-use Rattle.std.specs.Prelude.{Result, Ok, Err}
+use Rattle.std.specs.Prelude.{Result, Ok, Err, Some}
 use Rattle.refusals.specs.declared.Refusal.{Refusal}
 use Rattle.starting.specs.declared.Propagated.{Propagated}
 use Rattle.starting.specs.declared.Propagated.TheVariants.{Consistent, Contradiction}
@@ -77,7 +76,7 @@ module _ (t : Table) (g : Grid) where
     -- and where each cell is left with one pattern, no list is violated
     pub propagate_solved : (propagate_of t g D counts pending).told ≡ answer false
         → ((c : ℕ) → c < cells g → how_many t.count (get_or (propagate_of t g D counts pending).domains c 0) ≡ 1)
-        → (c p d n q : ℕ) → d < 4 → neighbour g c d ≡ some n
+        → (c p d n q : ℕ) → d < 4 → neighbour g c d ≡ Some n
         → possible (propagate_of t g D counts pending).domains c p ≡ 1 → possible (propagate_of t g D counts pending).domains n q ≡ 1 → InList t p d q
     propagate_solved e =
         let left = propagate-consistent e in

@@ -17,10 +17,6 @@ said-within t l l' r e =
     let same : r ≡ (put t (page l 0)).at = ap (λ (p : Page). p.at) e in
     omega (arith, within, same)
 
--- both that are said of it
-pub said : (t l l' : List ℕ) (r : ℕ) → page l' r ≡ put t (page l 0) → (page l' r ≡ put t (page l 0)) × (r ≤ length l)
-said t l l' r e = (e, said-within t l l' r e)
-
 reason_short : (k : ℕ) → length (reason_text k) ≤ 64
 unfolding reason_text reasons line
 reason_short zero =

@@ -1,34 +1,46 @@
 -- Laws of numbers as text: the digits of a number are those of its tenth and one more. Assumes nothing.
 use mathlib.Core.Bool.{Bool, true, false, cond}
 use mathlib.Core.List.{List, [], ◌∷◌, ◌++◌}
-use mathlib.Core.Path.{◌≡◌, refl, sym, ap, ◌∙◌}
-use Prim.Native.Nat.{ℕ, zero, suc, ◌+◌, ◌-◌, ◌/◌, ◌%◌, ◌≤◌, ◌<◌}
+use mathlib.Core.Path.{◌≡◌, sym, ap, ◌∙◌}
+use Prim.Native.Nat.{ℕ, zero, suc, ◌+◌, ◌*◌, ◌/◌, ◌%◌, ◌^◌, ◌≤◌, ◌<◌}
+use native.Mathlib.Numerals.{unary_clauses}
 use native.Mathlib.Omega.{arith}
 use lib.Dec.{ltb}
-use lib.ListN.{length, replicate, length-append}
+use lib.ListN.{length, length-append}
 use borrow.Author.Tests.{lt-ltb, le-ltb}
-use Rattle.text.specs.Numbers.{digits, decimal, aligned, padded}
-use Rattle.text.specs.Pages.{Page, put}
-use Rattle.text.proofs.PageLaws.{put_none, puts}
+use Rattle.text.specs.Numbers.{digits, decimal}
 
-pub digits_none : (n : ℕ) → digits 0 n ≡ []
+-- a number below 10, and one that is not, at one place more
+less : (k n : ℕ) → n < 10 → digits (suc k) n ≡ (48 + n % 10) ∷ []
 unfolding digits
-digits_none n = refl
+less k n l = simp (lt-ltb n 10 l)
 
-pub digits-one : (places n : ℕ) → (places ≡ 0 → ⊥) → n < 10 → digits places n ≡ (48 + n % 10) ∷ []
+more : (k n : ℕ) → 10 ≤ n → digits (suc k) n ≡ digits k (n / 10) ++ (48 + n % 10) ∷ []
 unfolding digits
-digits-one zero n h l = absurd (h refl)
-digits-one (suc k) n h l = simp (lt-ltb n 10 l)
+more k n l = simp (le-ltb n 10 l)
 
-pub digits_more : (places n : ℕ) → (places ≡ 0 → ⊥) → 10 ≤ n → digits places n ≡ digits (places - 1) (n / 10) ++ ((48 + n % 10) ∷ [])
+-- where there are places enough, one more changes nothing
+enough : (k n : ℕ) → n < 10 ^ suc k → digits (suc (suc k)) n ≡ digits (suc k) n
 unfolding digits
-digits_more zero n h l = absurd (h refl)
-digits_more (suc k) n h l =
-    let e : suc k - 1 ≡ k = omega arith in
-    simp (le-ltb n 10 l, e)
+enough zero n h = simp (lt-ltb n 10 h)
+enough (suc k) n h =
+    let tens : 10 ^ suc (suc k) ≡ 10 ^ suc k * 10 = simp unary_clauses (omega arith) in
+    ap (λ (t : List ℕ). cond (ltb n 10) [] t ++ (48 + n % 10) ∷ []) (enough k (n / 10) (tenth (10 ^ suc k) (rw tens at h)))
+  where
+    tenth : (m : ℕ) → n < m * 10 → n / 10 < m
+    tenth m h = omega arith
+
+pub decimal_small : (n : ℕ) → n < 10 → decimal n ≡ (48 + n % 10) ∷ []
+unfolding decimal
+decimal_small n l = less 19 n l
+
+pub decimal_large : (n : ℕ) → 10 ≤ n → n < 2 ^ 64 → decimal n ≡ decimal (n / 10) ++ (48 + n % 10) ∷ []
+unfolding decimal
+decimal_large n l fits =
+    more 19 n l ∙ ap (λ (t : List ℕ). t ++ (48 + n % 10) ∷ []) (sym (enough 18 (n / 10) (omega arith)))
 
 -- there are never more digits than places
-pub digits-few : (places n : ℕ) → length (digits places n) ≤ places
+digits-few : (places n : ℕ) → length (digits places n) ≤ places
 unfolding digits
 digits-few zero n = omega arith
 digits-few (suc k) n = simp length-append (front (ltb n 10) (digits-few k (n / 10)))
@@ -37,32 +49,11 @@ digits-few (suc k) n = simp length-append (front (ltb n 10) (digits-few k (n / 1
     front true h = omega arith
     front false h = omega arith
 
--- ---- how many there are
+pub decimal_few : (n : ℕ) → length (decimal n) ≤ 20
+unfolding decimal
+decimal_few n = digits-few 20 n
 
-pub count-one : (places n : ℕ) → (places ≡ 0 → ⊥) → n < 10 → 1 ≡ length (digits places n)
-count-one places n some l = sym (ap length (digits-one places n some l))
+pub length-decimal : (n : ℕ) → 10 ≤ n → n < 2 ^ 64 → length (decimal n) ≡ length (decimal (n / 10)) + 1
+length-decimal n l fits = ap length (decimal_large n l fits) ∙ length-append (decimal (n / 10)) _
 
-pub count_more : (places n : ℕ) → (places ≡ 0 → ⊥) → 10 ≤ n → length (digits (places - 1) (n / 10)) + 1 ≡ length (digits places n)
-count_more places n some l = sym (ap length (digits_more places n some l) ∙ length-append (digits (places - 1) (n / 10)) ((48 + n % 10) ∷ []))
-
--- ---- the ways of putting them
-
-pub none_put : (places n : ℕ) (p : Page) → places ≡ 0 → p ≡ put (digits places n) p
-none_put places n p e = sym (ap (λ (k : ℕ). put (digits k n) p) e ∙ ap (λ (t : List ℕ). put t p) (digits_none n) ∙ put_none p)
-
-module _ (places n : ℕ) (p q : Page) where
-  module _ (some : places ≡ 0 → ⊥) (b : ℕ) (last : b ≡ 48 + n % 10) where
-    pub one-put : n < 10 → q ≡ put (b ∷ []) p → q ≡ put (digits places n) p
-    one-put l e = rw (digits-one places n some l, ← last) e
-
-    pub more_put : (m : Page) → 10 ≤ n → m ≡ put (digits (places - 1) (n / 10)) p → q ≡ put (b ∷ []) m → q ≡ put (digits places n) p
-    more_put m l d e = rw (digits_more places n some l, ← last) (puts _ _ _ _ _ d e)
-
-pub padded-put : (width n : ℕ) (p q r : Page) (k m : ℕ) → k ≡ length (digits 20 n) → m ≡ width - k → q ≡ put (replicate m 32) p → r ≡ put (decimal n) q → r ≡ put (padded width n) p
-unfolding decimal aligned padded
-padded-put width n p q r k m e f g h =
-    puts _ _ _ _ _ (g ∙ ap (λ (j : ℕ). put (replicate j 32) p) (f ∙ ap (λ (j : ℕ). width - j) e)) h
-
-pub aligned-put : (width : ℕ) (t : List ℕ) (p q r : Page) (m : ℕ) → m ≡ width - length t → q ≡ put (replicate m 32) p → r ≡ put t q → r ≡ put (aligned width t) p
-unfolding aligned
-aligned-put width t p q r m e f g = puts _ _ _ _ _ (f ∙ ap (λ (j : ℕ). put (replicate j 32) p) e) g
+pub ruleset in_decimal = (decimal_small, decimal_large, decimal_few, length-decimal)

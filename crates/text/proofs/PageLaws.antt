@@ -3,15 +3,16 @@
 use mathlib.Core.Bool.{Bool, true, false, cond}
 use mathlib.Core.List.{List, [], ◌∷◌, ◌++◌}
 use mathlib.Core.Path.{◌≡◌, refl, sym, ap, ◌∙◌}
-use Prim.Native.Nat.{ℕ, zero, suc, ◌+◌, ◌-◌, ◌≤◌, ◌<◌}
+use Prim.Native.Nat.{ℕ, zero, suc, ◌+◌, ◌≤◌, ◌<◌}
 use native.Mathlib.Numerals.{add-one}
 use native.Mathlib.Omega.{arith}
 use lib.Dec.{ltb}
-use lib.ListN.{length, get_or, set, take, drop, replicate, length-set, drop_of_length-le}
-use lib.Seq.{drop-cons, sets, sets-eq}
+use lib.ListN.{length, get_or, set, take, drop, replicate, length-set}
+use lib.Seq.{sets, sets-eq, take-suc}
 use borrow.Author.Tests.{ltb-true, lt-ltb, le-ltb}
 use Rattle.loops.specs.Loops.{each}
-use Rattle.text.specs.Pages.{Page, page, put_byte, put, texts}
+use Rattle.text.specs.Pages.{Page, page, put_byte, put, page_of, Puts, texts}
+use Rattle.text.specs.declared.Page as lent
 
 pub put_none : (p : Page) → put [] p ≡ p
 unfolding put each
@@ -26,9 +27,17 @@ unfolding put each
 put-append [] t p = refl
 put-append (b ∷ s) t p = put-append s t (put_byte b p)
 
+-- no text leaves a page as it is
+pub stays : (p : lent.Page) → Puts [] p p
+stays p = record { same = refl; is = sym (put_none (page_of p)) }
+
 -- two texts that were put in a row
-pub puts : (s t : List ℕ) (p q r : Page) → q ≡ put s p → r ≡ put t q → r ≡ put (s ++ t) p
-puts s t p q r e f = f ∙ ap (put t) e ∙ sym (put-append s t p)
+infixl 4 ◌⨾◌
+pub ◌⨾◌ : {s t : List ℕ} {p q r : lent.Page} → Puts s p q → Puts t q r → Puts (s ++ t) p r
+◌⨾◌ {s} {t} {p} first next = record {
+  same = next.same ∙ first.same;
+  is = next.is ∙ ap (put t) first.is ∙ sym (put-append s t (page_of p));
+}
 
 -- ---- one byte
 
@@ -40,47 +49,43 @@ pub put_full : (b : ℕ) (l : List ℕ) (at : ℕ) → length l ≤ at → page 
 unfolding put each put_byte
 put_full b l at h = simp (le-ltb at (length l) h)
 
--- ---- loops
+-- ---- one turn more of a loop
 
-module _ (text : List ℕ) {R : Page} where
-  pub text-turn : (i : ℕ) (p q : Page) → i < length text → q ≡ put (get_or text i 0 ∷ []) p → put (drop i text) p ≡ R → put (drop (i + 1) text) q ≡ R
-  text-turn i p q h e inv =
-      let k : put (get_or text i 0 ∷ drop (suc i) text) p ≡ R = rw (drop-cons text i 0 h) at inv in
-      rw (add-one, e) (sym (put-cons (get_or text i 0) (drop (suc i) text) p) ∙ k)
+pub put-take : (t : List ℕ) (i : ℕ) (p : Page) → i < length t → put (take (i + 1) t) p ≡ put (get_or t i 0 ∷ []) (put (take i t) p)
+put-take t i p h = rw (add-one, take-suc t i 0 h) (put-append (take i t) _ p)
 
-  pub text-end : (i : ℕ) (p : Page) → length text ≤ i → put (drop i text) p ≡ R → p ≡ R
-  text-end i p h inv = sym (put_none p) ∙ (rw (drop_of_length-le text h) at inv)
+replicate_more : (b n : ℕ) → replicate (suc n) b ≡ replicate n b ++ b ∷ []
+replicate_more b zero = refl
+replicate_more b (suc n) = ap (λ (t : List ℕ). b ∷ t) (replicate_more b n)
 
-module _ (b : ℕ) {R : Page} where
-  pub repeated-turn : (left : ℕ) (p q : Page) → (left ≡ 0 → ⊥) → q ≡ put (b ∷ []) p → put (replicate left b) p ≡ R → put (replicate (left - 1) b) q ≡ R
-  repeated-turn zero p q h e inv = absurd (h refl)
-  repeated-turn (suc n) p q h e inv =
-      let k : suc n - 1 ≡ n = omega arith in
-      rw (k, e) (sym (put-cons b (replicate n b) p) ∙ inv)
+pub put-replicate : (b n : ℕ) (p : Page) → put (replicate (n + 1) b) p ≡ put (b ∷ []) (put (replicate n b) p)
+put-replicate b n p = rw (add-one, replicate_more b n) (put-append (replicate n b) _ p)
 
-  pub repeated-end : (left : ℕ) (p : Page) → left ≡ 0 → put (replicate left b) p ≡ R → p ≡ R
-  repeated-end left p h inv = sym (put_none p) ∙ (rw h at inv)
+pub put_texts_none : (f : ℕ → List ℕ) (i : ℕ) (p : Page) → put (texts f i 0) p ≡ p
+unfolding texts
+put_texts_none f i p = put_none p
 
-pub texts-start : (f : ℕ → List ℕ) (end : ℕ) (p : Page) → put (texts f 0 (end - 0)) p ≡ put (texts f 0 end) p
-texts-start f end p =
-    let n : end - 0 ≡ end = omega arith in
-    ap (λ (k : ℕ). put (texts f 0 k) p) n
+put-texts_from : (f : ℕ → List ℕ) (i n : ℕ) (p : Page) → put (texts f i (suc n)) p ≡ put (f (i + n)) (put (texts f i n) p)
+unfolding texts
+put-texts_from f i zero p =
+    let here : i + zero ≡ i = omega arith in
+    simp (put-append, put_none, here)
+put-texts_from f i (suc n) p =
+    let place : suc i + n ≡ i + suc n = omega arith in
+    put-append (f i) (texts f (suc i) (suc n)) p ∙ put-texts_from f (suc i) n (put (f i) p)
+    ∙ ap (λ (k : ℕ). put (f k) (put (texts f (suc i) n) (put (f i) p))) place
+    ∙ ap (put (f (i + suc n))) (sym (put-append (f i) (texts f (suc i) n) p))
 
-module _ (f : ℕ → List ℕ) (end : ℕ) {R : Page} where
-  -- a turn at i, which put its text
-  pub texts-turn : (i : ℕ) (p q : Page) → i < end → q ≡ put (f i) p → put (texts f i (end - i)) p ≡ R → put (texts f (i + 1) (end - (i + 1))) q ≡ R
-  unfolding texts
-  texts-turn i p q h e inv =
-      let n : end - i ≡ suc (end - (i + 1)) = omega arith in
-      let k : put (f i ++ texts f (suc i) (end - (i + 1))) p ≡ R = rw n at inv in
-      let j : put (f i ++ texts f (i + 1) (end - (i + 1))) p ≡ R = rw (← add-one i) at k in
-      rw e (sym (put-append (f i) _ p) ∙ j)
+pub put-texts : (f : ℕ → List ℕ) (n : ℕ) (p : Page) → put (texts f 0 (n + 1)) p ≡ put (f n) (put (texts f 0 n) p)
+put-texts f n p =
+    let here : 0 + n ≡ n = omega arith in
+    rw (add-one n) (rw here at (put-texts_from f 0 n p))
 
-  pub texts-end : (i : ℕ) (p : Page) → end ≤ i → put (texts f i (end - i)) p ≡ R → p ≡ R
-  unfolding texts
-  texts-end i p h inv =
-      let n : end - i ≡ 0 = omega arith in
-      sym (put_none p) ∙ (rw n at inv)
+-- the texts up to n, and then that of n
+pub one_more : (f : ℕ → List ℕ) (n m : ℕ) {t : List ℕ} {p q r : lent.Page} → m ≡ n + 1 → t ≡ f n → Puts (texts f 0 n) p q → Puts t q r → Puts (texts f 0 m) p r
+one_more f n m {t} {p} {q} {r} e at before last =
+    let whole : page_of r ≡ put (texts f 0 (n + 1)) (page_of p) = last.is ∙ ap (λ (l : List ℕ). put l (page_of q)) at ∙ ap (put (f n)) before.is ∙ sym (put-texts f n (page_of p)) in
+    record { same = last.same ∙ before.same; is = rw e whole }
 
 -- ---- what a page keeps
 
@@ -124,3 +129,11 @@ put-fits t l at h = stored t l at h ∙ ap (λ (bytes : List ℕ). page bytes (a
         let fits : suc at + length t ≤ length (set l at b) = rw (length-set l at b) (omega arith) in
         put-cons b t (page l at) ∙ ap (put t) (sym (put-room b l at (omega arith)) ∙ ap (page (set l at b)) next) ∙ stored t (set l at b) (suc at) fits
         ∙ ap (page (sets (set l at b) (suc at) t)) more
+
+-- ---- for the check: one byte, texts in a row, a turn of a loop
+
+pub ruleset one_byte = (put-room, put_full)
+
+pub ruleset in_a_row = (put_none, put-cons, put-append)
+
+pub ruleset turns = (put_none, put_texts_none, put-take, put-replicate, put-texts)

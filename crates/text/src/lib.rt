@@ -1,69 +1,17 @@
-// Text put on a lent page: bytes one after the other from a place on, and the next place as the answer. What does not fit is left out.
+// Text put on a lent page: bytes one after the other from a place on. What does not fit is left out.
 // Main property: each call puts exactly the text that its definition names, so texts put in a row are one text (`put-append`),
 // and a text that fits stands there whole (`put-fits`).
 #![tactic(auto)]
 
-ghost use Rattle.std.specs.Prelude.{◌≡◌, ◌∷◌, [], ◌+◌, ◌-◌, ◌<◌, length, replicate};
-ghost use Rattle.text.specs.Pages.{page, put, line};
-ghost use Rattle.text.specs.Numbers.{digits, decimal, aligned, padded};
+ghost use Rattle.std.specs.Prelude.{◌≡◌, ◌∷◌, [], ◌+◌, ◌<◌, length, take, replicate};
+ghost use Rattle.text.specs.Pages.{page, line, page_of, Puts};
+ghost use Rattle.text.specs.Numbers.{decimal, aligned, padded};
 
-// One byte.
-pub fn put_byte(byte: u8, at: usize, out: &mut [u8]) -> usize
-    ensures { page out.new result ≡ put (byte ∷ []) (page out.old at) }
-{
-    if at < out.len() {
-        out[at] = byte;
-        return at + 1;
-    }
-    at
-}
-
-// A text.
-pub fn put_text(text: &[u8], at: usize, out: &mut [u8]) -> usize
-    ensures { page out.new result ≡ put text.now (page out.old at) }
-{
-    let mut next = at;
-    let mut i = 0;
-    while i < text.len() {
-        next = put_byte(text[i], next, out);
-        i += 1;
-    }
-    next
-}
-
-// Line number k of a table of texts, one to a line.
-pub fn put_line(table: &[u8], k: usize, at: usize, out: &mut [u8]) -> usize
-    ensures { page out.new result ≡ put (line k table.now) (page out.old at) }
-{
-    let mut next = at;
-    let mut left = k;
-    let mut i = 0;
-    while i < table.len() {
-        let byte = table[i];
-        i += 1;
-        if byte == 10 {
-            if left == 0 {
-                return next;
-            }
-            left -= 1;
-        } else if left == 0 {
-            next = put_byte(byte, next, out);
-        }
-    }
-    next
-}
-
-// One byte so many times.
-pub fn put_repeated(byte: u8, count: usize, at: usize, out: &mut [u8]) -> usize
-    ensures { page out.new result ≡ put (replicate count byte) (page out.old at) }
-{
-    let mut next = at;
-    let mut left = count;
-    while left != 0 {
-        next = put_byte(byte, next, out);
-        left -= 1;
-    }
-    next
+// A lent page, and the place where the next byte goes.
+#[derive(Drop)]
+pub struct Page<'a> {
+    out: &'a mut [u8],
+    at: usize,
 }
 
 // The sign of a digit.
@@ -71,62 +19,106 @@ fn digit(d: usize) -> u8
     requires { d < 10 }
     ensures { result ≡ 48 + d }
 {
-    48 + d as u8
+    b'0' + d as u8
 }
 
-// The digits of n, of which there are at most so many places.
-fn put_digits(n: usize, places: usize, at: usize, out: &mut [u8]) -> usize
-    ensures { page out.new result ≡ put (digits places n) (page out.old at) }
+// How many digits a number has.
+#[tactic(auto, using(crate::proofs::NumberLaws::in_decimal))]
+fn digit_count(n: usize) -> usize
+    ensures { result ≡ length (decimal n) }
 {
-    if places == 0 {
-        return at;
+    if n < 10 { 1 } else { digit_count(n / 10) + 1 }
+}
+
+impl<'a> Page<'a> {
+    // A page of what is lent, from a place on.
+    pub fn new(out: &'a mut [u8], at: usize) -> Page<'a>
+        ensures same { result.out.ghost_name ≡ out.entry.ghost_name }
+        ensures page { page_of result ≡ page out.old at }
+    {
+        Page { out, at }
     }
-    if n < 10 {
-        return put_byte(digit(n % 10), at, out);
+
+    // The next place.
+    pub fn at(&self) -> usize
+        ensures { result ≡ self.now.at }
+    {
+        self.at
     }
-    let next = put_digits(n / 10, places - 1, at, out);
-    put_byte(digit(n % 10), next, out)
-}
 
-// A number in decimal.
-pub fn put_decimal(n: usize, at: usize, out: &mut [u8]) -> usize
-    ensures { page out.new result ≡ put (decimal n) (page out.old at) }
-{
-    put_digits(n, 20, at, out)
-}
-
-// How many digits of n there are, in at most so many places.
-fn digit_count(n: usize, places: usize) -> usize
-    ensures { result ≡ length (digits places n) }
-{
-    if places == 0 {
-        return 0;
+    // What stands before the next place.
+    pub fn written(&self) -> &[u8]
+        ensures { result.now ≡ take self.now.at self.now.out.now }
+    {
+        self.out.get(..self.at).unwrap_or(&self.out[..])
     }
-    if n < 10 {
-        return 1;
+
+    // One byte.
+    #[tactic(auto, using(crate::proofs::PageLaws::one_byte))]
+    pub fn put_byte(&mut self, byte: u8)
+        ensures { Puts (byte ∷ []) self.old self.new }
+    {
+        if self.at < self.out.len() {
+            self.out[self.at] = byte;
+            self.at += 1;
+        }
     }
-    digit_count(n / 10, places - 1) + 1
-}
 
-// How much of the width is left beside so much.
-fn room(width: usize, taken: usize) -> usize
-    ensures { result ≡ width - taken }
-{
-    if taken < width { width - taken } else { 0 }
-}
+    // A text.
+    #[tactic(auto, using(crate::proofs::PageLaws::turns))]
+    pub fn put_text(&mut self, text: &[u8])
+        ensures { Puts text.now self.old self.new }
+    {
+        for byte in text {
+            self.put_byte(*byte);
+        }
+    }
 
-// A text at the end of so wide a column.
-pub fn put_aligned(width: usize, text: &[u8], at: usize, out: &mut [u8]) -> usize
-    ensures { page out.new result ≡ put (aligned width text.now) (page out.old at) }
-{
-    let next = put_repeated(b' ', room(width, text.len()), at, out);
-    put_text(text, next, out)
-}
+    // Line number k of a table of texts, one to a line.
+    pub fn put_line(&mut self, table: &[u8], k: usize)
+        ensures { Puts (line k table.now) self.old self.new }
+    {
+        if let Some(line) = table.split(|byte| *byte == b'\n').nth(k) {
+            self.put_text(line);
+        }
+    }
 
-// A number in decimal at the end of so wide a column.
-pub fn put_padded(width: usize, n: usize, at: usize, out: &mut [u8]) -> usize
-    ensures { page out.new result ≡ put (padded width n) (page out.old at) }
-{
-    let next = put_repeated(b' ', room(width, digit_count(n, 20)), at, out);
-    put_decimal(n, next, out)
+    // One byte so many times.
+    #[tactic(auto, using(crate::proofs::PageLaws::turns))]
+    pub fn put_repeated(&mut self, byte: u8, count: usize)
+        ensures { Puts (replicate count byte) self.old self.new }
+    {
+        for _ in 0..count {
+            self.put_byte(byte);
+        }
+    }
+
+    // A number in decimal.
+    #[tactic(auto, using(crate::proofs::PageLaws::in_a_row, crate::proofs::NumberLaws::in_decimal))]
+    pub fn put_decimal(&mut self, n: usize)
+        ensures { Puts (decimal n) self.old self.new }
+    {
+        if 10 <= n {
+            self.put_decimal(n / 10);
+        }
+        self.put_byte(digit(n % 10));
+    }
+
+    // A text at the end of so wide a column.
+    #[tactic(auto, using(crate::proofs::PageLaws::in_a_row), unfolding(crate::specs::Numbers::aligned))]
+    pub fn put_aligned(&mut self, width: usize, text: &[u8])
+        ensures { Puts (aligned width text.now) self.old self.new }
+    {
+        self.put_repeated(b' ', width.saturating_sub(text.len()));
+        self.put_text(text);
+    }
+
+    // A number in decimal at the end of so wide a column.
+    #[tactic(auto, using(crate::proofs::PageLaws::in_a_row), unfolding(crate::specs::Numbers::padded, crate::specs::Numbers::aligned))]
+    pub fn put_padded(&mut self, width: usize, n: usize)
+        ensures { Puts (padded width n) self.old self.new }
+    {
+        self.put_repeated(b' ', width.saturating_sub(digit_count(n)));
+        self.put_decimal(n);
+    }
 }

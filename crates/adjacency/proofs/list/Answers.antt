@@ -15,7 +15,7 @@ accepted c = sym c.list_refusal.ensures ∙ ap number_of c.in-Ok.is
 
 pub list_of-requires : goal.list_of-requires
 list_of-requires c =
-    let (ok, hp, hd) = answered _ _ _ (accepted c) in
+    let (ok, hp, hd) = answered _ _ _ (accepted (goal.at.list_of-requires c).In-Ok) in
     (ok.listed.laid, hp, hd)
 
 pub returns-in-Ok : goal.returns-in-Ok

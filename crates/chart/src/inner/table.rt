@@ -1,16 +1,30 @@
 // The chart as text. Each call puts the text of one definition.
-ghost use Rattle.std.specs.Prelude.{◌≡◌, ◌/◌, ◌<◌, ◌*◌, ◌+◌, replicate};
+ghost use Rattle.std.specs.Prelude.{◌≡◌, ◌/◌, ◌<◌, replicate};
+ghost use Rattle.text.specs.Pages.{Puts, texts};
 ghost use Rattle.chart.specs.Chart as meaning;
-ghost use Rattle.text.specs.Pages.{page, put, texts};
-ghost use Rattle.chart.specs.Chart.{cell_text, cells_text, row_text, row_of, row_count, rows_text, border_text, column_text, columns_text, seam_text, end_text, label_text, entry_text, some_text, open_text, empty_text, legend_text, grid_text, chart_text};
+ghost use Rattle.chart.specs.Chart.{cell_text, cells_text, row_text, row_of, row_count, rows_text, border_text, column_text, columns_text, seam_text, end_text, label_text, entry_text, some_text, count_text, legend_text, grid_text, chart_of};
 ghost use Rattle.chart.specs.Tallies.{tally, alike, holding};
 
 use crate::inner::signs::{border, glyph, joins_x, joins_y};
-use text::{put_aligned, put_byte, put_decimal, put_line, put_padded, put_repeated, put_text};
+use text::Page;
+
+// An ocean as it is shown: the grid's sides and mode, whether the patterns are named as the practice ocean's, how the run ended and how many words it used, and the domains.
+// `mode` and `end` stay numbers: `put_chart` and the picture's calls tell every number (docs/CONTRACTS.md, `chart_text`).
+#[derive(Clone, Copy)]
+pub struct Ocean<'a> {
+    pub width: usize,
+    pub height: usize,
+    pub mode: usize,
+    pub named: bool,
+    pub end: usize,
+    pub words: usize,
+    pub domains: &'a [u64],
+}
 
 // ---- the grid
 
 // How many signs wide a cell is.
+#[tactic(auto, unfolding(crate::specs::Chart::wideness))]
 fn wideness(domains: &[u64]) -> usize
     ensures { result ≡ meaning.wideness domains.now }
 {
@@ -22,196 +36,154 @@ fn wideness(domains: &[u64]) -> usize
 }
 
 // A cell, so many signs wide.
-fn put_cell(wide: usize, word: u64, at: usize, out: &mut [u8]) -> usize
-    ensures { page out.new result ≡ put (cell_text wide word) (page out.old at) }
+#[tactic(auto, using(text::proofs::PageLaws::in_a_row), unfolding(crate::specs::Chart::cell_text))]
+fn put_cell(page: &mut Page, wide: usize, word: u64)
+    ensures { Puts (cell_text wide word) page.old page.new }
 {
     if word == 0 {
-        return put_aligned(wide, b"?", at, out);
+        return page.put_aligned(wide, b"?");
     }
     let left = words::inner::count_ones(word);
     if left == 1 {
-        let sign = [glyph(words::inner::next_pattern(word))];
-        return put_aligned(wide, &sign, at, out);
+        return page.put_aligned(wide, &[glyph(words::inner::next_pattern(word))]);
     }
-    put_padded(wide, left, at, out)
+    page.put_padded(wide, left);
 }
 
 // The cells of a row.
-fn put_cells(wide: usize, row: &[u64], at: usize, out: &mut [u8]) -> usize
-    ensures { page out.new result ≡ put (cells_text wide row.now) (page out.old at) }
+#[tactic(auto, using(text::proofs::PageLaws::turns), unfolding(crate::specs::Chart::cells_text))]
+fn put_cells(page: &mut Page, wide: usize, row: &[u64])
+    ensures { Puts (cells_text wide row.now) page.old page.new }
 {
-    let mut next = at;
-    let mut x = 0;
-    while x < row.len() {
-        next = put_cell(wide, row[x], next, out);
-        x += 1;
+    for word in row {
+        put_cell(page, wide, *word);
     }
-    next
 }
 
 // A row, with its number and its borders.
-fn put_row(wide: usize, y: usize, joined: bool, row: &[u64], at: usize, out: &mut [u8]) -> usize
-    ensures { page out.new result ≡ put (row_text wide y joined row.now) (page out.old at) }
+#[tactic(auto, using(text::proofs::PageLaws::in_a_row), unfolding(crate::specs::Chart::row_text))]
+fn put_row(page: &mut Page, wide: usize, y: usize, joined: bool, row: &[u64])
+    ensures { Puts (row_text wide y joined row.now) page.old page.new }
 {
     let sign = border(joined, b'|');
-    let a = put_padded(2, y, at, out);
-    let b = put_byte(b' ', a, out);
-    let c = put_byte(sign, b, out);
-    let d = put_cells(wide, row, c, out);
-    let e = put_byte(b' ', d, out);
-    let f = put_byte(sign, e, out);
-    put_byte(b'\n', f, out)
+    page.put_padded(2, y);
+    page.put_byte(b' ');
+    page.put_byte(sign);
+    put_cells(page, wide, row);
+    page.put_byte(b' ');
+    page.put_byte(sign);
+    page.put_byte(b'\n');
 }
 
 // How many whole rows there are.
 pub fn row_count(width: usize, cells: usize) -> usize
     ensures { result ≡ cells / width }
 {
-    if width == 0 { 0 } else { cells / width }
-}
-
-// Row y of the domains.
-fn put_row_of(
-    wide: usize,
-    width: usize,
-    y: usize,
-    joined: bool,
-    domains: &[u64],
-    at: usize,
-    out: &mut [u8],
-) -> usize
-    requires { y < row_count width domains.now }
-    ensures { page out.new result
-        ≡ put (row_text wide y joined (row_of width domains.now y)) (page out.old at) }
-{
-    let start = y * width;
-    let end = start + width;
-    put_row(wide, y, joined, &domains[start..end], at, out)
+    cells.checked_div(width).unwrap_or(0)
 }
 
 // The rows.
-fn put_rows(
-    wide: usize,
-    width: usize,
-    joined: bool,
-    domains: &[u64],
-    at: usize,
-    out: &mut [u8],
-) -> usize
-    ensures { page out.new result ≡ put (rows_text wide width joined domains.now) (page out.old at) }
+#[tactic(auto, using(text::proofs::PageLaws::turns), unfolding(crate::specs::Chart::rows_text))]
+fn put_rows(page: &mut Page, wide: usize, width: usize, joined: bool, domains: &[u64])
+    ensures { Puts (rows_text wide width joined domains.now) page.old page.new }
 {
-    let rows = row_count(width, domains.len());
-    let mut next = at;
-    let mut y = 0;
-    while y < rows {
-        next = put_row_of(wide, width, y, joined, domains, next, out);
-        y += 1;
+    if width != 0 {
+        for (y, row) in domains.chunks_exact(width).enumerate() {
+            put_row(page, wide, y, joined, row);
+        }
     }
-    next
 }
 
 // So many signs over each cell.
-fn put_side(wide: usize, width: usize, sign: u8, at: usize, out: &mut [u8]) -> usize
-    ensures { page out.new result ≡ put (texts (λ x. replicate wide sign) 0 width) (page out.old at) }
+#[tactic(auto, using(text::proofs::PageLaws::turns))]
+fn put_side(page: &mut Page, wide: usize, width: usize, sign: u8)
+    ensures { Puts (texts (λ x. replicate wide sign) 0 width) page.old page.new }
 {
-    let mut next = at;
-    let mut x = 0;
-    while x < width {
-        next = put_repeated(sign, wide, next, out);
-        x += 1;
+    for _ in 0..width {
+        page.put_repeated(sign, wide);
     }
-    next
 }
 
 // The north or the south border.
-fn put_border(wide: usize, width: usize, joined: bool, at: usize, out: &mut [u8]) -> usize
-    ensures { page out.new result ≡ put (border_text wide width joined) (page out.old at) }
+#[tactic(auto, using(text::proofs::PageLaws::in_a_row), unfolding(crate::specs::Chart::border_text))]
+fn put_border(page: &mut Page, wide: usize, width: usize, joined: bool)
+    ensures { Puts (border_text wide width joined) page.old page.new }
 {
     let sign = border(joined, b'-');
-    let a = put_text(b"   +", at, out);
-    let b = put_side(wide, width, sign, a, out);
-    let c = put_byte(sign, b, out);
-    put_text(b"+\n", c, out)
+    page.put_text(b"   +");
+    put_side(page, wide, width, sign);
+    page.put_byte(sign);
+    page.put_text(b"+\n");
 }
 
 // A column's number over every fourth column.
-fn put_column(wide: usize, x: usize, at: usize, out: &mut [u8]) -> usize
-    ensures { page out.new result ≡ put (column_text wide x) (page out.old at) }
+#[tactic(auto, unfolding(crate::specs::Chart::column_text))]
+fn put_column(page: &mut Page, wide: usize, x: usize)
+    ensures { Puts (column_text wide x) page.old page.new }
 {
     if x % 4 == 0 {
-        return put_padded(wide, x, at, out);
+        page.put_padded(wide, x);
+    } else {
+        page.put_repeated(b' ', wide);
     }
-    put_repeated(b' ', wide, at, out)
 }
 
 // The columns' numbers.
-fn put_numbers(wide: usize, width: usize, at: usize, out: &mut [u8]) -> usize
-    ensures { page out.new result ≡ put (texts (column_text wide) 0 width) (page out.old at) }
+#[tactic(auto, using(text::proofs::PageLaws::turns))]
+fn put_numbers(page: &mut Page, wide: usize, width: usize)
+    ensures { Puts (texts (column_text wide) 0 width) page.old page.new }
 {
-    let mut next = at;
-    let mut x = 0;
-    while x < width {
-        next = put_column(wide, x, next, out);
-        x += 1;
+    for x in 0..width {
+        put_column(page, wide, x);
     }
-    next
 }
 
 // The line over the grid.
-fn put_columns(wide: usize, width: usize, at: usize, out: &mut [u8]) -> usize
-    ensures { page out.new result ≡ put (columns_text wide width) (page out.old at) }
+#[tactic(auto, using(text::proofs::PageLaws::in_a_row), unfolding(crate::specs::Chart::columns_text))]
+fn put_columns(page: &mut Page, wide: usize, width: usize)
+    ensures { Puts (columns_text wide width) page.old page.new }
 {
-    let a = put_text(b"    ", at, out);
-    let b = put_numbers(wide, width, a, out);
-    put_byte(b'\n', b, out)
+    page.put_text(b"    ");
+    put_numbers(page, wide, width);
+    page.put_byte(b'\n');
 }
 
 // The grid with its borders.
-fn put_grid(
-    wide: usize,
-    width: usize,
-    mode: usize,
-    domains: &[u64],
-    at: usize,
-    out: &mut [u8],
-) -> usize
-    ensures { page out.new result ≡ put (grid_text wide width mode domains.now) (page out.old at) }
+#[tactic(auto, using(text::proofs::PageLaws::in_a_row), unfolding(crate::specs::Chart::grid_text))]
+fn put_grid(page: &mut Page, wide: usize, width: usize, mode: usize, domains: &[u64])
+    ensures { Puts (grid_text wide width mode domains.now) page.old page.new }
 {
-    let across = joins_y(mode);
-    let a = put_columns(wide, width, at, out);
-    let b = put_border(wide, width, across, a, out);
-    let c = put_rows(wide, width, joins_x(mode), domains, b, out);
-    put_border(wide, width, across, c, out)
+    put_columns(page, wide, width);
+    put_border(page, wide, width, joins_y(mode));
+    put_rows(page, wide, width, joins_x(mode), domains);
+    put_border(page, wide, width, joins_y(mode));
 }
 
 // ---- in words
 
 // Which sides are seams.
-fn put_seam(mode: usize, at: usize, out: &mut [u8]) -> usize
-    ensures { page out.new result ≡ put (seam_text mode) (page out.old at) }
+#[tactic(auto, using(text::proofs::PageLaws::in_a_row), unfolding(crate::specs::Chart::seam_text))]
+fn put_seam(page: &mut Page, mode: usize)
+    ensures { Puts (seam_text mode) page.old page.new }
 {
-    let next = put_line(
+    page.put_line(
         b"No side is joined to another: - and | are edges.\nEast meets west: what leaves at a : comes in at the other one. - is an edge.\nNorth meets south: what leaves at a : comes in at the other one. | is an edge.\nEast meets west and north meets south: what leaves at a : comes in at the other one.",
         mode,
-        at,
-        out,
     );
-    put_byte(b'\n', next, out)
+    page.put_byte(b'\n');
 }
 
 // How the run ended, and the words that it used.
-pub fn put_end(end: usize, words: usize, at: usize, out: &mut [u8]) -> usize
-    ensures { page out.new result ≡ put (end_text end words) (page out.old at) }
+pub fn put_end(page: &mut Page, end: usize, words: usize)
+    ensures { Puts (end_text end words) page.old page.new }
 {
-    let a = put_line(
+    page.put_line(
         b"Decided: every cell has one pattern.\nUndecided: nothing is left to choose, and some cell has more than one pattern.\nPaused: the words were used up before every cell was decided.\nContradiction: no pattern is left, every cell is empty.",
         end,
-        at,
-        out,
     );
-    let b = put_text(b" Words used: ", a, out);
-    let c = put_decimal(words, b, out);
-    put_text(b".\n", c, out)
+    page.put_text(b" Words used: ");
+    page.put_decimal(words);
+    page.put_text(b".\n");
 }
 
 // ---- the legend
@@ -220,139 +192,105 @@ pub fn put_end(end: usize, words: usize, at: usize, out: &mut [u8]) -> usize
 pub fn count_alike(domains: &[u64], word: u64) -> usize
     ensures { result ≡ tally (alike word) domains.now }
 {
-    let mut cells = 0;
-    let mut i = 0;
-    while i < domains.len() {
-        let w = domains[i];
-        i += 1;
-        if w == word {
-            cells += 1;
-        }
-    }
-    cells
+    domains.iter().filter(|w| **w == word).count()
 }
 
 // How many cells have so many patterns or more.
 fn count_holding(domains: &[u64], many: usize) -> usize
     ensures { result ≡ tally (holding many) domains.now }
 {
-    let mut cells = 0;
-    let mut i = 0;
-    while i < domains.len() {
-        let left = words::inner::count_ones(domains[i]);
-        i += 1;
-        if many <= left {
-            cells += 1;
-        }
-    }
-    cells
+    domains
+        .iter()
+        .filter(|w| many <= words::inner::count_ones(**w))
+        .count()
 }
 
 // A pattern's name in the practice ocean, where that is laid.
-pub fn put_label(named: bool, p: usize, at: usize, out: &mut [u8]) -> usize
-    ensures { page out.new result ≡ put (label_text named p) (page out.old at) }
+#[tactic(auto, using(text::proofs::PageLaws::in_a_row), unfolding(crate::specs::Chart::label_text))]
+pub fn put_label(page: &mut Page, named: bool, p: usize)
+    ensures { Puts (label_text named p) page.old page.new }
 {
     if named {
-        let next = put_text(b": ", at, out);
-        return practice::put_name(p, next, out);
+        page.put_text(b": ");
+        practice::put_name(page, p);
     }
-    at
 }
 
 // A pattern: its sign, in how many cells it stands, its number and its name.
-fn put_entry(named: bool, p: usize, cells: usize, at: usize, out: &mut [u8]) -> usize
-    ensures { page out.new result ≡ put (entry_text named p cells) (page out.old at) }
+#[tactic(auto, using(text::proofs::PageLaws::in_a_row), unfolding(crate::specs::Chart::entry_text))]
+fn put_entry(page: &mut Page, named: bool, p: usize, cells: usize)
+    ensures { Puts (entry_text named p cells) page.old page.new }
 {
-    let sign = glyph(p);
-    let a = put_text(b"  ", at, out);
-    let b = put_byte(sign, a, out);
-    let c = put_padded(6, cells, b, out);
-    let d = put_text(b"  pattern ", c, out);
-    let e = put_padded(2, p, d, out);
-    let f = put_label(named, p, e, out);
-    put_byte(b'\n', f, out)
+    page.put_text(b"  ");
+    page.put_byte(glyph(p));
+    page.put_padded(6, cells);
+    page.put_text(b"  pattern ");
+    page.put_padded(2, p);
+    put_label(page, named, p);
+    page.put_byte(b'\n');
 }
 
 // A pattern that stands in some cell.
-fn put_some(named: bool, domains: &[u64], p: usize, at: usize, out: &mut [u8]) -> usize
+#[tactic(auto, using(text::proofs::PageLaws::in_a_row), unfolding(crate::specs::Chart::some_text))]
+fn put_some(page: &mut Page, named: bool, domains: &[u64], p: usize)
     requires { p < 64 }
-    ensures { page out.new result ≡ put (some_text named domains.now p) (page out.old at) }
+    ensures { Puts (some_text named domains.now p) page.old page.new }
 {
     let cells = count_alike(domains, words::inner::lone_pattern(p));
-    if cells == 0 {
-        return at;
+    if cells != 0 {
+        put_entry(page, named, p, cells);
     }
-    put_entry(named, p, cells, at, out)
 }
 
 // The patterns that stand in some cell.
-fn put_patterns(named: bool, domains: &[u64], at: usize, out: &mut [u8]) -> usize
-    ensures { page out.new result ≡ put (texts (some_text named domains.now) 0 64) (page out.old at) }
+#[tactic(auto, using(text::proofs::PageLaws::turns))]
+fn put_patterns(page: &mut Page, named: bool, domains: &[u64])
+    ensures { Puts (texts (some_text named domains.now) 0 64) page.old page.new }
 {
-    let mut next = at;
-    let mut p = 0;
-    while p < 64 {
-        next = put_some(named, domains, p, next, out);
-        p += 1;
+    for p in 0..64 {
+        put_some(page, named, domains, p);
     }
-    next
 }
 
-// The cells that are told by number, where there are any.
-fn put_open(cells: usize, at: usize, out: &mut [u8]) -> usize
-    ensures { page out.new result ≡ put (open_text cells) (page out.old at) }
+// The cells of a sign that is no pattern's: how many, and what it says, where there are any.
+#[tactic(auto, using(text::proofs::PageLaws::in_a_row), unfolding(crate::specs::Chart::count_text))]
+fn put_count(page: &mut Page, sign: &[u8], cells: usize, meaning: &[u8])
+    ensures { Puts (count_text sign.now cells meaning.now) page.old page.new }
 {
-    if cells == 0 {
-        return at;
+    if cells != 0 {
+        page.put_text(sign);
+        page.put_padded(6, cells);
+        page.put_text(meaning);
     }
-    let a = put_text(b" 2+", at, out);
-    let b = put_padded(6, cells, a, out);
-    put_text(
-        b"  undecided: the number says how many patterns remain\n",
-        b,
-        out,
-    )
-}
-
-// The cells without a pattern, where there are any.
-fn put_empty(cells: usize, at: usize, out: &mut [u8]) -> usize
-    ensures { page out.new result ≡ put (empty_text cells) (page out.old at) }
-{
-    if cells == 0 {
-        return at;
-    }
-    let a = put_text(b"  ?", at, out);
-    let b = put_padded(6, cells, a, out);
-    put_text(b"  empty: no pattern remains\n", b, out)
 }
 
 // The legend.
-fn put_legend(named: bool, domains: &[u64], at: usize, out: &mut [u8]) -> usize
-    ensures { page out.new result ≡ put (legend_text named domains.now) (page out.old at) }
+fn put_legend(page: &mut Page, named: bool, domains: &[u64])
+    ensures { Puts (legend_text named domains.now) page.old page.new }
 {
-    let open = count_holding(domains, 2);
-    let empty = count_alike(domains, 0);
-    let a = put_patterns(named, domains, at, out);
-    let b = put_open(open, a, out);
-    put_empty(empty, b, out)
+    put_patterns(page, named, domains);
+    put_count(
+        page,
+        b" 2+",
+        count_holding(domains, 2),
+        b"  undecided: the number says how many patterns remain\n",
+    );
+    put_count(
+        page,
+        b"  ?",
+        count_alike(domains, 0),
+        b"  empty: no pattern remains\n",
+    );
 }
 
 // The chart of an ocean: its grid with seams and edges, how its run ended, and a legend, with the practice ocean's names where `named`.
-pub fn put_chart(
-    width: usize,
-    mode: usize,
-    named: bool,
-    end: usize,
-    words: usize,
-    domains: &[u64],
-    at: usize,
-    out: &mut [u8],
-) -> usize
-    ensures { page out.new result
-        ≡ put (chart_text width mode named end words domains.now) (page out.old at) }
+#[tactic(auto, using(text::proofs::PageLaws::in_a_row), unfolding(crate::specs::Chart::chart_text))]
+pub fn put_chart(page: &mut Page, ocean: &Ocean)
+    ensures { Puts (chart_of ocean.now) page.old page.new }
 {
-    let a = put_grid(wideness(domains), width, mode, domains, at, out);
-    let b = put_seam(mode, a, out);
-    let c = put_end(end, words, b, out);
-    put_legend(named, domains, c, out)
+    let wide = wideness(ocean.domains);
+    put_grid(page, wide, ocean.width, ocean.mode, ocean.domains);
+    put_seam(page, ocean.mode);
+    put_end(page, ocean.end, ocean.words);
+    put_legend(page, ocean.named, ocean.domains);
 }

@@ -6,17 +6,9 @@ ghost use Rattle.layout.specs.Reading.{count_in, lists_fit, lists_in, well_forme
 ghost use Rattle.layout.specs.Lending.{lent, filled, Roomy};
 
 use crate::inner::shape::{count_of, forbids_of, lists_of, weights_of};
-use records::inner::{lay_bytes, read_numbers, wide};
+use records::inner::{lay_bytes, read_numbers};
 
 // ---- lists
-
-// A number of ids as an offset.
-fn narrow(x: usize) -> u32
-    requires { x < 65536 }
-    ensures { result ≡ x }
-{
-    x as u32
-}
 
 // Where each list starts, and where the last ends.
 fn read_offsets(payload: &[u8], lists: usize, offsets: &mut [u32])
@@ -24,16 +16,14 @@ fn read_offsets(payload: &[u8], lists: usize, offsets: &mut [u32])
     ensures { offsets.new ≡ sets offsets.old 0 (offsets_from 0 (lists_in lists payload.now)) }
 {
     let mut at = 0;
-    let mut ids = 0;
-    let mut k = 0;
-    while k < lists {
-        offsets[k] = narrow(ids);
-        let size = wide(payload[at]);
-        ids = ids + size;
-        at = at + 1 + size;
-        k += 1;
+    let mut ids: usize = 0;
+    for k in 0..lists {
+        offsets[k] = ids as u32;
+        let size = usize::from(payload[at]);
+        ids += size;
+        at += 1 + size;
     }
-    offsets[k] = narrow(ids);
+    offsets[lists] = ids as u32;
 }
 
 // The lists one after the other.
@@ -43,13 +33,11 @@ fn read_ids(payload: &[u8], lists: usize, ids: &mut [u8])
 {
     let mut at = 0;
     let mut place = 0;
-    let mut k = 0;
-    while k < lists {
+    for _ in 0..lists {
         let start = at + 1;
-        let end = start + wide(payload[at]);
+        let end = start + usize::from(payload[at]);
         place = lay_bytes(&payload[start..end], ids, place);
         at = end;
-        k += 1;
     }
 }
 

@@ -4,7 +4,7 @@ ghost use Rattle.records.specs.Numbers.{numbers_in};
 ghost use Rattle.records.specs.Records.{payload_of};
 ghost use Rattle.layout.specs.Reading.{from_lists, from_grid, from_forbids, Frames, framed, count_in, weights_fit, lists_fit, kinds_fit, forbids_fit, well_formed};
 
-use records::inner::{begins, payload_of, rest_of, u16_at, wide};
+use records::inner::{begins, payload_of, rest_of, u16_at};
 
 // ---- the records
 
@@ -27,7 +27,7 @@ fn framed(sheet: &[u8]) -> bool
     if !begins(forbids, 4) {
         return false;
     }
-    rest_of(forbids).len() == 0
+    rest_of(forbids).is_empty()
 }
 
 // The weights of the first record, past P.
@@ -80,17 +80,15 @@ fn lists_fit(lists: usize, payload: &[u8]) -> bool
     ensures { result ≡ lists_fit lists payload.now }
 {
     let mut at = 0;
-    let mut k = 0;
-    while k < lists {
+    for _ in 0..lists {
         if at == payload.len() {
             return false;
         }
-        let size = wide(payload[at]);
+        let size = usize::from(payload[at]);
         if payload.len() - at <= size {
             return false;
         }
-        at = at + 1 + size;
-        k += 1;
+        at += 1 + size;
     }
     at == payload.len()
 }
@@ -99,12 +97,10 @@ fn lists_fit(lists: usize, payload: &[u8]) -> bool
 fn kinds_fit(payload: &[u8]) -> bool
     ensures { result ≡ kinds_fit (numbers_in payload.now) }
 {
-    let mut i = 0;
-    while i < payload.len() / 6 {
-        if 1 < u16_at(payload, 6 * i + 4) {
+    for forbid in payload.chunks_exact(6) {
+        if 1 < u16_at(forbid, 4) {
             return false;
         }
-        i += 1;
     }
     true
 }

@@ -3,13 +3,13 @@ ghost use Rattle.std.specs.Prelude.{[], ◌∷◌, ◌≡◌, ◌+◌, ◌*◌, 
 ghost use Rattle.records.specs.Numbers.{u16s};
 ghost use Rattle.records.specs.Records.{record_of};
 ghost use Rattle.records.specs.Laying.{pen, laid};
-ghost use Rattle.adjacency.specs.Tables.{table};
 ghost use Rattle.adjacency.specs.Accepted.{Accepted};
-ghost use Rattle.grid.specs.Grid.{grid};
 ghost use Rattle.layout.specs.Sheet.{list_bytes, bytes_of};
 ghost use Rattle.layout.specs.Tables.{kind_of, lists_of, sheet_for, stored};
 ghost use Rattle.layout.specs.Lending.{Small, Numbered, Fitting};
 
+use adjacency::inner::Table;
+use grid::Grid;
 use records::inner::{lay_byte, lay_bytes, lay_head, lay_numbers, lay_u16};
 
 // The first record: the count and the weights.
@@ -34,65 +34,47 @@ fn lay_list(list: &[u8], out: &mut [u8], at: usize) -> usize
 }
 
 // All lists in order.
-fn lay_each_list(count: usize, offsets: &[u32], ids: &[u8], out: &mut [u8], at: usize) -> usize
-    requires { Accepted (table count offsets.now ids.now) × (at + length (list_bytes (lists_of (table count offsets.now ids.now))) ≤ length out.old) }
-    ensures { pen out.new result ≡ laid (list_bytes (lists_of (table count offsets.now ids.now))) (pen out.old at) }
+fn lay_each_list(table: &Table, out: &mut [u8], at: usize) -> usize
+    requires { Accepted table.now × (at + length (list_bytes (lists_of table.now)) ≤ length out.old) }
+    ensures { pen out.new result ≡ laid (list_bytes (lists_of table.now)) (pen out.old at) }
 {
     let mut place = at;
-    let mut k = 0;
-    while k < 4 * count {
-        let list = adjacency::inner::list_of(count, offsets, ids, k / 4, k % 4);
+    for k in 0..4 * table.count {
+        let list = table.list_of(k / 4, k % 4);
         place = lay_list(list, out, place);
-        k += 1;
     }
     place
 }
 
 // The second record: the lists.
-fn lay_lists(count: usize, offsets: &[u32], ids: &[u8], out: &mut [u8], at: usize) -> usize
-    requires { Accepted (table count offsets.now ids.now) × (at + 6 + 4 * count + length ids.now ≤ length out.old) }
-    ensures { pen out.new result ≡ laid (record_of 2 (list_bytes (lists_of (table count offsets.now ids.now)))) (pen out.old at) }
+fn lay_lists(table: &Table, out: &mut [u8], at: usize) -> usize
+    requires { Accepted table.now × (at + 6 + 4 * table.now.count + length table.now.ids ≤ length out.old) }
+    ensures { pen out.new result ≡ laid (record_of 2 (list_bytes (lists_of table.now))) (pen out.old at) }
 {
-    let place = lay_head(2, 4 * count + ids.len(), out, at);
-    lay_each_list(count, offsets, ids, out, place)
+    let place = lay_head(2, 4 * table.count + table.ids.len(), out, at);
+    lay_each_list(table, out, place)
 }
 
 // ---- grid and forbids
 
-// Three numbers.
-fn lay_three(a: usize, b: usize, c: usize, out: &mut [u8], at: usize) -> usize
-    requires { (a < 65536) × (b < 65536) × (c < 65536) × (at + 6 ≤ length out.old) }
-    ensures { pen out.new result ≡ laid (u16s (a ∷ b ∷ c ∷ [])) (pen out.old at) }
-{
-    let place = lay_u16(a, out, at);
-    let place = lay_u16(b, out, place);
-    lay_u16(c, out, place)
-}
-
 // The third record: width, height and mode.
-fn lay_grid(width: usize, height: usize, mode: usize, out: &mut [u8], at: usize) -> usize
-    requires { (width < 65536) × (height < 65536) × (mode < 65536) × (at + 12 ≤ length out.old) }
-    ensures { pen out.new result ≡ laid (record_of 3 (u16s (width ∷ height ∷ mode ∷ []))) (pen out.old at) }
+fn lay_grid(grid: Grid, out: &mut [u8], at: usize) -> usize
+    requires { (grid.width < 65536) × (grid.height < 65536) × (grid.mode < 65536) × (at + 12 ≤ length out.old) }
+    ensures { pen out.new result ≡ laid (record_of 3 (u16s (grid.width ∷ grid.height ∷ grid.mode ∷ []))) (pen out.old at) }
 {
     let place = lay_head(3, 6, out, at);
-    lay_three(width, height, mode, out, place)
-}
-
-// A number as an index.
-fn plain(x: u32) -> usize
-    ensures { result ≡ x }
-{
-    x as usize
+    lay_numbers(
+        &[grid.width as u32, grid.height as u32, grid.mode as u32],
+        out,
+        place,
+    )
 }
 
 // Whether a forbid keeps, as it is stored.
-fn kind_of(keep: u32) -> usize
+fn kind_of(keep: u32) -> u32
     ensures { result ≡ kind_of keep }
 {
-    if keep == 0 {
-        return 0;
-    }
-    1
+    if keep == 0 { 0 } else { 1 }
 }
 
 // All forbids in order.
@@ -101,13 +83,9 @@ fn lay_each_forbid(forbids: &[u32], out: &mut [u8], at: usize) -> usize
     ensures { pen out.new result ≡ laid (u16s (stored forbids.now)) (pen out.old at) }
 {
     let mut place = at;
-    let mut i = 0;
-    while i < forbids.len() / 3 {
-        let cell = plain(forbids[3 * i]);
-        let pattern = plain(forbids[3 * i + 1]);
-        let kind = kind_of(forbids[3 * i + 2]);
-        place = lay_three(cell, pattern, kind, out, place);
-        i += 1;
+    for forbid in forbids.chunks_exact(3) {
+        let kind = kind_of(forbid[2]);
+        place = lay_numbers(&[forbid[0], forbid[1], kind], out, place);
     }
     place
 }
@@ -125,23 +103,19 @@ fn lay_forbids(forbids: &[u32], out: &mut [u8], at: usize) -> usize
 
 // The four records from the front.
 pub fn lay_sheet(
-    count: usize,
+    table: &Table,
     weights: &[u32],
-    offsets: &[u32],
-    ids: &[u8],
-    width: usize,
-    height: usize,
-    mode: usize,
+    grid: Grid,
     forbids: &[u32],
     out: &mut [u8],
 ) -> usize
-    requires { Fitting (table count offsets.now ids.now) weights.now (grid width height mode) forbids.now
-        × (32 + 6 * count + length ids.now + 2 * length forbids.now ≤ length out.old) }
+    requires { Fitting table.now weights.now grid forbids.now
+        × (32 + 6 * table.now.count + length table.now.ids + 2 * length forbids.now ≤ length out.old) }
     ensures { pen out.new result
-        ≡ laid (bytes_of (sheet_for (table count offsets.now ids.now) weights.now (grid width height mode) forbids.now)) (pen out.old 0) }
+        ≡ laid (bytes_of (sheet_for table.now weights.now grid forbids.now)) (pen out.old 0) }
 {
     let place = lay_weights(weights, out, 0);
-    let place = lay_lists(count, offsets, ids, out, place);
-    let place = lay_grid(width, height, mode, out, place);
+    let place = lay_lists(table, out, place);
+    let place = lay_grid(grid, out, place);
     lay_forbids(forbids, out, place)
 }

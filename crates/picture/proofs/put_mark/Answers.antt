@@ -1,11 +1,14 @@
--- `chart::picture::put_mark` meets its contract: nothing on a cell that is decided or empty.
+-- `picture::put_mark` meets its contract: its parts in a row where more than one pattern remains.
 -- Assumes nothing.
-use Rattle.picture.proofs.PictureLaws.{mark_none, mark-put}
+use borrow.Author.Tests.{le-ltb}
+use Rattle.words.specs.Words.{how_many}
+use Rattle.text.proofs.PageLaws.{◌⨾◌}
+use Rattle.picture.specs.Picture.{mark_text}
 use Rattle.picture.proofs.put_mark.Goals as goal
 
-pub returns-then-left-lt2 : goal.returns-then-left-lt2
-returns-then-left-lt2 c = mark_none _ _ _ _ _ c.count_ones-left.ensures c.if-left-lt2.true
-
-pub returns : goal.returns
-returns c = mark-put _ _ _ _ _ c.count_ones-left.ensures _ _ _ _ _ _ _ c.if-left-lt2.false
-    c.put_text-a.ensures c.put_decimal-b.ensures c.put_text-c.ensures c.put_decimal-d.ensures c.put_text-e.ensures c.put_decimal-f.ensures c.put_text.ensures
+pub returns-then-left-ge2 : goal.returns-then-left-ge2
+unfolding mark_text
+returns-then-left-ge2 c = simp (le-ltb (how_many 64 c.args.word) 2 (rw c.count_ones-left.ensures at c.if-left-ge2.true)) (rw (← c.count_ones-left.ensures) (
+    c.put_text.ensures ⨾ c.put_decimal.ensures ⨾ c.put_text-then-left-ge2.ensures ⨾ c.put_decimal-then-left-ge2.ensures ⨾ c.put_text-then-left-ge2-2.ensures
+    ⨾ c.put_decimal-then-left-ge2-2.ensures ⨾ c.put_text-then-left-ge2-3.ensures
+    ))

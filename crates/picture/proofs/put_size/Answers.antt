@@ -1,8 +1,9 @@
--- `chart::picture::put_size` meets its contract: its parts in a row.
+-- `picture::put_size` meets its contract: its parts in a row.
 -- Assumes nothing.
-use Rattle.picture.proofs.PictureLaws.{size-put}
+use Rattle.text.proofs.PageLaws.{◌⨾◌}
+use Rattle.picture.specs.Picture.{size_text}
 use Rattle.picture.proofs.put_size.Goals as goal
 
 pub returns : goal.returns
-returns c = size-put _ _ _ _ _ _ _ _ _ _ c.breadth-wide.ensures c.beneath-high.ensures
-    c.put_text-a.ensures c.put_decimal-b.ensures c.put_byte-c.ensures c.put_decimal-d.ensures c.put_text.ensures
+unfolding size_text
+returns c = rw (← c.breadth.ensures, ← c.beneath.ensures) (c.put_text.ensures ⨾ c.put_decimal.ensures ⨾ c.put_byte.ensures ⨾ c.put_decimal-2.ensures ⨾ c.put_text-2.ensures)

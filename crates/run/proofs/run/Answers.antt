@@ -26,7 +26,7 @@ judged : (c : After-begin) → let s = (goal.at.After-begin c).Start in
     beginning (number_of c.check_all-bad.result) (length c.args.forbids.now) (input s) (entry s) ≡ begun_stage (input s) c.args.forbids.now (entry s)
 judged c =
     let s = (goal.at.After-begin c).Start in
-    ap (λ (n : ℕ). beginning n (length c.args.forbids.now) (input s) (entry s)) (c.check_all-bad.ensures c.args.offsets.now c.args.ids.now c.args.mode)
+    ap (λ (n : ℕ). beginning n (length c.args.forbids.now) (input s) (entry s)) (c.check_all-bad.ensures c.args.offsets.now c.args.ids.now)
 
 pub returns-in_err-begin : goal.returns-in_err-begin
 returns-in_err-begin c =

@@ -1,9 +1,8 @@
--- `seed::mix` meets its contract: the steps are those of the mixer.
+-- `seed::mix` meets its contract: the steps of the mixer, one after the other.
 -- Assumes nothing.
-use Rattle.std.proofs.Common.{◌∙◌}
+use Rattle.std.proofs.Common.{refl, ◌∙◌}
 use Rattle.seed.proofs.SeedLaws.{mixed-steps}
 use Rattle.seed.proofs.mix.Goals as goal
 
 pub returns : goal.returns
-returns c =
-    c.folded-3.ensures ∙ mixed-steps _ _ _ _ _ c.folded.ensures c.times-once.ensures c.folded-2.ensures c.times-twice.ensures
+returns c = c.folded.ensures ∙ mixed-steps _ _ _ _ _ c.folded-once.ensures refl c.folded-twice.ensures refl

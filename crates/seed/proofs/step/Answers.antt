@@ -1,7 +1,9 @@
--- `seed::step` meets its contract: the sum wraps. Assumes nothing.
+-- `seed::step` meets its contract: the sum wraps.
+-- Assumes nothing.
+use Rattle.std.proofs.Common.{refl}
 use Rattle.seed.specs.Seeds.{stepped}
 use Rattle.seed.proofs.step.Goals as goal
 
 pub returns : goal.returns
 unfolding stepped
-returns c = c.wrapping_add_u32.ensures.value
+returns c = refl

@@ -4,8 +4,6 @@ use mathlib.Core.Path.{sym, ◌∙◌}
 use native.Mathlib.Omega.{arith}
 use Rattle.std.proofs.lemmas.Result.{err_from_is_err_and}
 use Rattle.grid.specs.Grid.{grid}
-use Rattle.layout.specs.Tables.{table_of}
-use Rattle.layout.specs.Reading.{sheet_in}
 use Rattle.layout.specs.Lending.{lent}
 use Rattle.refusals.proofs.RefusalLaws.{number_of-accepted}
 use Rattle.adjacency.proofs.AcceptedLaws.{counted}

@@ -9,12 +9,12 @@ use Rattle.forbids.proofs.inner.judge.Goals as goal
 
 pub returns-then-past_grid : goal.returns-then-past_grid
 unfolding number_of
-returns-then-past_grid c = λ mode. sym (place_tests-is _ _ _ _ (sym (c.past_grid.ensures mode) ∙ c.if-past_grid.true) refl)
+returns-then-past_grid c = sym (place_tests-is _ _ _ _ (sym c.past_grid.ensures ∙ c.if-past_grid.true) refl)
 
 pub returns-then-count-pattern : goal.returns-then-count-pattern
 unfolding bad_pattern number_of
-returns-then-count-pattern c = λ mode. sym (place_tests-is _ _ _ _ (sym (c.past_grid.ensures mode) ∙ c.if-past_grid.false) (le-leb _ _ c.if-count-pattern.true))
+returns-then-count-pattern c = sym (place_tests-is _ _ _ _ (sym c.past_grid.ensures ∙ c.if-past_grid.false) (le-leb _ _ c.if-count-pattern.true))
 
 pub returns : goal.returns
 unfolding bad_pattern number_of
-returns c = λ mode. sym (place_tests-is _ _ _ _ (sym (c.past_grid.ensures mode) ∙ c.if-past_grid.false) (lt-leb _ _ c.if-count-pattern.false))
+returns c = sym (place_tests-is _ _ _ _ (sym c.past_grid.ensures ∙ c.if-past_grid.false) (lt-leb _ _ c.if-count-pattern.false))

@@ -4,4 +4,4 @@ use Rattle.records.proofs.LayingLaws.{laid_one}
 use Rattle.records.proofs.inner.lay_byte.Goals as goal
 
 pub returns : goal.returns
-returns c = rw c.narrow.ensures (laid_one _ _ _)
+returns c = laid_one _ _ _

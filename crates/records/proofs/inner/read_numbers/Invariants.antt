@@ -1,7 +1,7 @@
 -- `records::inner::read_numbers` meets its contract.
 -- Assumes nothing.
 use mathlib.Core.Path.{◌≡◌}
-use Prim.Native.Nat.{◌-◌, ◌*◌, ◌≤◌}
+use Prim.Native.Nat.{◌*◌}
 use lib.ListN.{length, drop}
 use lib.Seq.{sets}
 use Rattle.records.specs.Numbers.{numbers_in}
@@ -9,7 +9,4 @@ use Rattle.records.proofs.inner.read_numbers.Given as goal
 
 abbrev pub invariant-loop-i : goal.invariant-loop-i
 invariant-loop-i l =
-    (2 * l.i ≤ length l.bytes) × (length l.out ≡ length l.initial.out) × (sets l.out l.i (numbers_in (drop (2 * l.i) l.bytes)) ≡ sets l.initial.out 0 (numbers_in l.bytes))
-
-abbrev pub decreases-loop-i : goal.decreases-loop-i
-decreases-loop-i l = length l.bytes - l.i
+    (length l.out ≡ length l.initial.out) × (sets l.out l.i (numbers_in (drop (2 * l.i) l.bytes)) ≡ sets l.initial.out 0 (numbers_in l.bytes))

@@ -37,7 +37,7 @@ begun b = let l = b.begin.new in memory l.domains l.counts l.pending l.floats l.
 counted : (b : After-begin) → beginning (number_of b.judge_all-bad.result) b.records_in-lent.result (input (goal.at.After-begin b).Start) (entry (goal.at.After-begin b).Start)
     ≡ beginning (first_of (forbid_tests (input (goal.at.After-begin b).Start).table (input (goal.at.After-begin b).Start).grid (forbids_of (numbers (goal.at.After-begin b).Start)))) (records_in (numbers (goal.at.After-begin b).Start)) (input (goal.at.After-begin b).Start) (entry (goal.at.After-begin b).Start)
 counted b =
-    let judged = b.judge_all-bad.ensures b.args.offsets.now b.args.ids.now b.args.mode in
+    let judged = b.judge_all-bad.ensures b.args.offsets.now b.args.ids.now in
     let many = b.records_in-lent.ensures in
     λ j. beginning (judged j) (many j) (input (goal.at.After-begin b).Start) (entry (goal.at.After-begin b).Start)
 

@@ -19,9 +19,9 @@ other (Lists left lists) n = refl
 other (Ids ids left lists) n = refl
 other (Forbids left) n = refl
 
+pub returns-in-Bad : goal.returns-in-Bad
+unfolding bad
+returns-in-Bad c = sym (ap bad c.in-Bad.is)
+
 pub returns-in_default : goal.returns-in_default
 returns-in_default c = other c.args.state c.in_default.not-Bad
-
-pub returns : goal.returns
-unfolding bad
-returns c = sym (ap bad c.in-Bad.is)

@@ -23,6 +23,6 @@ other (Forbids left) n = absurd (n left refl)
 pub returns-in_default : goal.returns-in_default
 returns-in_default c = other c.args.state c.in_default.not-Forbids
 
-pub returns : goal.returns
+pub returns-in-Forbids : goal.returns-in-Forbids
 unfolding formed
-returns c = sym (ap formed c.in-Forbids.is)
+returns-in-Forbids c = sym (ap formed c.in-Forbids.is)

@@ -1,24 +1,22 @@
 -- `scan::inner::holding` meets its contract: by the kind.
 -- Assumes nothing.
 use mathlib.Core.Path.{sym, ◌∙◌}
-use borrow.Author.Tests.{ne_eqb}
+use Rattle.std.proofs.Common.{rules}
 use Rattle.scan.specs.Scanning.{holding}
 use Rattle.scan.proofs.inner.holding.Goals as goal
 
-pub returns-then-kind-eq1 : goal.returns-then-kind-eq1
+pub returns-in-1 : goal.returns-in-1
 unfolding holding
-returns-then-kind-eq1 c = rw c.if-kind-eq1.true
+returns-in-1 c = rw c.in-1.is
 
-pub returns-then-kind-eq2 : goal.returns-then-kind-eq2
+pub returns-in-2 : goal.returns-in-2
 unfolding holding
-returns-then-kind-eq2 c = c.listing.ensures ∙ sym (rw c.if-kind-eq2.true)
+returns-in-2 c = c.listing.ensures ∙ sym (rw c.in-2.is)
 
-pub returns-then-kind-eq3 : goal.returns-then-kind-eq3
+pub returns-in-3 : goal.returns-in-3
 unfolding holding
-returns-then-kind-eq3 c = c.gridding.ensures ∙ sym (rw c.if-kind-eq3.true)
+returns-in-3 c = c.gridding.ensures ∙ sym (rw c.in-3.is)
 
-pub returns : goal.returns
+pub returns-in_default : goal.returns-in_default
 unfolding holding
-returns c =
-    let kind = c.args.kind in
-    c.forbidding.ensures ∙ sym (rw (ne_eqb kind 1 c.if-kind-eq1.false, ne_eqb kind 2 c.if-kind-eq2.false, ne_eqb kind 3 c.if-kind-eq3.false))
+returns-in_default c = search rules

@@ -1,17 +1,17 @@
 -- `scan::inner::kind_fits` meets its contract: by the place.
 -- Assumes nothing.
-use borrow.Author.Tests.{ne_eqb}
+use Rattle.std.proofs.Common.{rules}
 use Rattle.scan.specs.Scanning.{kind_fits}
 use Rattle.scan.proofs.inner.kind_fits.Goals as goal
 
-pub returns-then-place-eq2 : goal.returns-then-place-eq2
+pub returns-in-2 : goal.returns-in-2
 unfolding kind_fits
-returns-then-place-eq2 c = rw c.if-place-eq2.true
+returns-in-2 c = rw c.in-2.is
 
-pub returns-then-place-eq1 : goal.returns-then-place-eq1
+pub returns-in-1 : goal.returns-in-1
 unfolding kind_fits
-returns-then-place-eq1 c = rw c.if-place-eq1.true
+returns-in-1 c = rw c.in-1.is
 
-pub returns : goal.returns
+pub returns-in_default : goal.returns-in_default
 unfolding kind_fits
-returns c = rw (ne_eqb c.args.place 2 c.if-place-eq2.false, ne_eqb c.args.place 1 c.if-place-eq1.false)
+returns-in_default c = search rules

@@ -6,12 +6,12 @@ use Rattle.scan.specs.Scanning.{step, past}
 use Rattle.loops.proofs.LoopLaws.{each_turn, each-end}
 use Rattle.scan.proofs.inner.past.Goals as goal
 
-pub loop-i-init : goal.loop-i-init
-loop-i-init c = (omega arith, refl)
+pub loop-byte-init : goal.loop-byte-init
+loop-byte-init c = refl
 
-pub loop-i-preserved : goal.loop-i-preserved
-loop-i-preserved c = (omega arith, each_turn step c.args.bytes.now c.loop-i-test.true refl c.step-reached.ensures c.loop-i.invariant.1)
+pub loop-byte-preserved : goal.loop-byte-preserved
+loop-byte-preserved c = each_turn step c.args.bytes.now c.loop-byte-test.true refl c.step-reached.ensures c.loop-byte.invariant
 
 pub returns : goal.returns
 unfolding past
-returns c = (each-end step c.args.bytes.now c.loop-i-test.false c.loop-i.invariant.1, λ k. omega (arith, c.type_inv.bytes k))
+returns c = (each-end step c.args.bytes.now c.loop-byte-test.false c.loop-byte.invariant, λ k. omega (arith, c.type_inv.bytes k))

@@ -1,6 +1,8 @@
 -- `scan::inner::step` meets its contract: by the state.
 -- Assumes nothing.
-use mathlib.Core.Path.{sym, ap, ◌∙◌}
+use mathlib.Core.Path.{◌≡◌, sym, ap, ◌∙◌}
+use Prim.Native.Nat.{◌+◌, ◌*◌}
+use native.Mathlib.Omega.{arith}
 use Rattle.scan.specs.Scanning.{step}
 use Rattle.scan.proofs.inner.step.Goals as goal
 
@@ -12,7 +14,7 @@ pub returns-in-Head : goal.returns-in-Head
 unfolding step
 returns-in-Head c =
     let x = c.args.x in
-    c.headed.ensures ∙ rw c.wide.ensures.0 (sym (ap (step x) c.in-Head.is))
+    c.headed.ensures ∙ rw c.from.ensures (sym (ap (step x) c.in-Head.is))
 
 pub returns-in-Count : goal.returns-in-Count
 unfolding step
@@ -22,7 +24,8 @@ pub returns-in-High : goal.returns-in-High
 unfolding step
 returns-in-High c =
     let x = c.args.x in
-    c.counted.ensures ∙ rw (c.wide-in-High-2.ensures.0, c.wide-in-High.ensures.0) (sym (ap (step x) c.in-High.is))
+    let count : c.from-in-High.result ≡ c.in-High.low + 256 * x = omega (arith, c.from_le_bytes.ensures) in
+    c.counted.ensures ∙ rw count (sym (ap (step x) c.in-High.is))
 
 pub returns-in-Pass : goal.returns-in-Pass
 unfolding step
@@ -32,7 +35,7 @@ pub returns-in-Lists : goal.returns-in-Lists
 unfolding step
 returns-in-Lists c =
     let x = c.args.x in
-    c.listed.ensures ∙ rw c.wide-in-Lists.ensures.0 (sym (ap (step x) c.in-Lists.is))
+    c.listed.ensures ∙ rw c.from-in-Lists.ensures (sym (ap (step x) c.in-Lists.is))
 
 pub returns-in-Ids : goal.returns-in-Ids
 unfolding step
@@ -42,4 +45,4 @@ pub returns-in-Forbids : goal.returns-in-Forbids
 unfolding step
 returns-in-Forbids c =
     let x = c.args.x in
-    c.forbidden.ensures ∙ rw c.wide-in-Forbids.ensures.0 (sym (ap (step x) c.in-Forbids.is))
+    c.forbidden.ensures ∙ rw c.from-in-Forbids.ensures (sym (ap (step x) c.in-Forbids.is))

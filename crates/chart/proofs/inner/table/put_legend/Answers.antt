@@ -1,8 +1,9 @@
 -- `chart::table::put_legend` meets its contract: its parts in a row.
 -- Assumes nothing.
-use Rattle.chart.proofs.ChartLaws.{legend_put}
+use Rattle.text.proofs.PageLaws.{◌⨾◌}
+use Rattle.chart.specs.Chart.{legend_text}
 use Rattle.chart.proofs.inner.table.put_legend.Goals as goal
 
 pub returns : goal.returns
-returns c = legend_put _ _ _ _ _ _ _ _ c.count_holding-open.ensures c.count_alike-empty.ensures
-    c.put_patterns-a.ensures c.put_open-b.ensures c.put_empty.ensures
+unfolding legend_text
+returns c = rw (← c.count_holding.ensures, ← c.count_alike.ensures) (c.put_patterns.ensures ⨾ c.put_count.ensures ⨾ c.put_count-2.ensures)

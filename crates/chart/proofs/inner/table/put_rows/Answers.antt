@@ -1,32 +1,24 @@
--- `chart::table::put_rows` meets its contract. The invariant: the rows that are left, put on the page now, are all of them, put on the page at entry.
+-- `chart::table::put_rows` meets its contract: each chunk is the row of its number.
 -- Assumes nothing.
-use native.Mathlib.Omega.{arith}
-use mathlib.Core.Path.{refl, ap, ◌∙◌}
-use Prim.Native.Nat.{ℕ}
-use Rattle.text.specs.Pages.{page, put, texts}
-use Rattle.text.proofs.PageLaws.{texts-start, texts-turn, texts-end}
-use Rattle.chart.specs.Chart.{row_text, row_of, rows_text}
+use Rattle.std.proofs.Common.{◌≡◌, sym, ap, ◌∙◌, ℕ, ◌+◌, ◌*◌, [], ◌∷◌, ◌++◌, length, drop, arith, length-append}
+use Rattle.text.proofs.PageLaws.{one_more}
+use Rattle.chart.proofs.ChartLaws.{chunk_row, chunk_rest}
 use Rattle.chart.proofs.inner.table.put_rows.Goals as goal
 
-pub loop-y-init : goal.loop-y-init
-unfolding rows_text
-loop-y-init c =
-    let a = c.args in
-    (omega arith, refl, c.row_count-rows.ensures, texts-start (λ y. row_text a.wide y a.joined (row_of a.width a.domains.now y)) _ _ ∙ ap (λ (n : ℕ). put (texts (λ y. row_text a.wide y a.joined (row_of a.width a.domains.now y)) 0 n) (page a.out.now a.at)) c.row_count-rows.ensures)
-
-pub put_row_of-next-requires : goal.put_row_of-next-requires
-put_row_of-next-requires c = rw (← c.loop-y.invariant.2) c.loop-y-test.true
-
 pub loop-y-preserved : goal.loop-y-preserved
-loop-y-preserved c = (
-  omega arith,
-  c.put_row_of-next.auto.out ∙ c.loop-y.invariant.1,
-  c.loop-y.invariant.2,
-  texts-turn _ _ _ _ _ c.loop-y-test.true c.put_row_of-next.ensures c.loop-y.invariant.3,
-)
-
-pub shape_of-out : goal.shape_of-out
-shape_of-out c = c.loop-y.invariant.1
-
-pub returns : goal.returns
-returns c = texts-end _ _ _ _ c.loop-y-test.false c.loop-y.invariant.3
+loop-y-preserved c =
+    let i = c.loop-y.invariant in
+    let h = c.in-Some.ensures.steps in
+    let l = c.args.domains.now in
+    let width = c.args.width in
+    let done = length c.loop-y.yielded in
+    let next : length (c.loop-y.yielded ++ (c.in-Some.y, c.in-Some.row) ∷ []) ≡ done + 1 = length-append c.loop-y.yielded _ in
+    let left = sym i.rest ∙ ((h.0).1).0 in
+    let wide = ((h.0).1).1 ∙ i.size in
+    let number = h.1 ∙ i.number in
+    record {
+      number = omega (arith, h.2, i.number, next);
+      size = (h.0).0 ∙ i.size;
+      rest = chunk_rest width done l _ _ left wide ∙ ap (λ (k : ℕ). drop (k * width) l) (sym next);
+      rows = one_more _ done _ next (cc (number, chunk_row width done l _ _ left wide)) i.rows c.put_row.ensures;
+    }

@@ -11,7 +11,6 @@ use Rattle.refusals.specs.declared.Refusal.{Refusal}
 use Rattle.refusals.specs.declared.Refusal.TheVariants.{BadSize, BadWrap, BadCount, BadWeights, BadLength, BadList, Disagree, BadCell, BadPattern, BadSheet, BadDirection}
 use Rattle.refusals.specs.contracts.Refusal.{the_type}
 use Rattle.refusals.specs.Refusals.{number, number_of}
-use Rattle.grid.specs.Grid.{grid}
 use Rattle.faults.proofs.EndLaws.{forbid-cell, forbid-pattern, forbid_none}
 use Rattle.faults.proofs.inner.search.forbid_place.Goals as goal
 
@@ -38,16 +37,16 @@ cell-told E (Err r) = of-cell r
 pub returns-then-eq : goal.returns-then-eq
 returns-then-eq c =
     let a = c.args in
-    let told : eqb (number_of c.judge.result) 8 ≡ true = sym (cell-told _ c.judge.result) ∙ sym c.eq.ensures ∙ c.if-eq.true in λ mode.
-    forbid-cell a.count (grid a.width a.height mode) a.forbids.now (c.bad_forbid-i.ensures mode) c.if-i-forbids.true (c.judge.ensures mode) (eqb-true _ 8 told) c.plain.ensures
+    let told : eqb (number_of c.judge.result) 8 ≡ true = sym (cell-told _ c.judge.result) ∙ sym c.eq.ensures ∙ c.if-eq.true in
+    forbid-cell a.count a.grid a.forbids.now c.bad_forbid-i.ensures c.if-i-forbids.true c.judge.ensures (eqb-true _ 8 told) refl
 
 pub returns-then-i-forbids : goal.returns-then-i-forbids
 returns-then-i-forbids c =
     let a = c.args in
-    let told : eqb (number_of c.judge.result) 8 ≡ false = sym (cell-told _ c.judge.result) ∙ sym c.eq.ensures ∙ c.if-eq.false in λ mode.
-    forbid-pattern a.count (grid a.width a.height mode) a.forbids.now (c.bad_forbid-i.ensures mode) c.if-i-forbids.true (c.judge.ensures mode) (eqb-false _ 8 told) c.plain-then-i-forbids.ensures
+    let told : eqb (number_of c.judge.result) 8 ≡ false = sym (cell-told _ c.judge.result) ∙ sym c.eq.ensures ∙ c.if-eq.false in
+    forbid-pattern a.count a.grid a.forbids.now c.bad_forbid-i.ensures c.if-i-forbids.true c.judge.ensures (eqb-false _ 8 told) refl
 
 pub returns : goal.returns
 returns c =
-    let a = c.args in λ mode.
-    forbid_none a.count (grid a.width a.height mode) a.forbids.now (c.bad_forbid-i.ensures mode) c.if-i-forbids.false
+    let a = c.args in
+    forbid_none a.count a.grid a.forbids.now c.bad_forbid-i.ensures c.if-i-forbids.false

@@ -12,14 +12,14 @@ use Rattle.layout.proofs.inner.filling.read_offsets.Goals as goal
 pub loop-k-init : goal.loop-k-init
 loop-k-init c =
     let all : c.args.lists - 0 ≡ c.args.lists = omega arith in
-    (omega arith, omega arith, omega arith, refl, rw all c.requires.0, rw all)
+    (omega arith, omega arith, refl, rw all c.requires.0, rw all)
 
 pub bounds-payload-at : goal.bounds-payload-at
 bounds-payload-at c =
     let loop = c.loop-k in
     let n = c.args.lists - (loop.k + 1) in
     let left : c.args.lists - loop.k ≡ suc n = omega (arith, c.loop-k-test.true) in
-    let fit : lists_fit (suc n) (drop loop.at c.args.payload.now) ≡ true = rw left at loop.invariant.4 in
+    let fit : lists_fit (suc n) (drop loop.at c.args.payload.now) ≡ true = rw left at loop.invariant.3 in
     next_inside n loop.at c.args.payload.now fit
 
 pub overflow_add-at : goal.overflow_add-at
@@ -27,7 +27,7 @@ overflow_add-at c =
     let loop = c.loop-k in
     let n = c.args.lists - (loop.k + 1) in
     let left : c.args.lists - loop.k ≡ suc n = omega (arith, c.loop-k-test.true) in
-    let fit : lists_fit (suc n) (drop loop.at c.args.payload.now) ≡ true = rw left at loop.invariant.4 in
+    let fit : lists_fit (suc n) (drop loop.at c.args.payload.now) ≡ true = rw left at loop.invariant.3 in
     omega (arith, next_size n loop.at c.args.payload.now fit)
 
 pub overflow_add-at-in-loop-k : goal.overflow_add-at-in-loop-k
@@ -35,31 +35,32 @@ overflow_add-at-in-loop-k c =
     let loop = c.loop-k in
     let n = c.args.lists - (loop.k + 1) in
     let left : c.args.lists - loop.k ≡ suc n = omega (arith, c.loop-k-test.true) in
-    let fit : lists_fit (suc n) (drop loop.at c.args.payload.now) ≡ true = rw left at loop.invariant.4 in
-    omega (arith, next_size n loop.at c.args.payload.now fit, c.wide-size.ensures.0)
+    let fit : lists_fit (suc n) (drop loop.at c.args.payload.now) ≡ true = rw left at loop.invariant.3 in
+    omega (arith, next_size n loop.at c.args.payload.now fit, c.from-size.ensures)
 
 pub loop-k-preserved : goal.loop-k-preserved
 loop-k-preserved c =
     let loop = c.loop-k in
     let n = c.args.lists - (loop.k + 1) in
     let left : c.args.lists - loop.k ≡ suc n = omega (arith, c.loop-k-test.true) in
-    let fit : lists_fit (suc n) (drop loop.at c.args.payload.now) ≡ true = rw left at loop.invariant.4 in
+    let fit : lists_fit (suc n) (drop loop.at c.args.payload.now) ≡ true = rw left at loop.invariant.3 in
     let p = c.args.payload.now in
-    let size : c.wide-size.result ≡ get_or p loop.at 0 = c.wide-size.ensures.0 in
-    rw (c.narrow.ensures, size) (
-      omega arith,
+    let size : c.from-size.result ≡ get_or p loop.at 0 = c.from-size.ensures in
+    let next : loop.at + (1 + get_or p loop.at 0) ≡ loop.at + 1 + get_or p loop.at 0 = omega arith in
+    rw (size, next) (
       omega (arith, next_size n loop.at p fit),
-      omega (arith, c.wide-size.ensures.1),
-      length-set loop.offsets loop.k loop.ids ∙ loop.invariant.3,
+      omega (arith, c.type_inv.payload loop.at),
+      length-set loop.offsets loop.k loop.ids ∙ loop.invariant.2,
       next_fit n loop.at p fit,
-      offsets-turn n loop.at p fit loop.ids loop.offsets loop.k ∙ (rw left at loop.invariant.5),
+      offsets-turn n loop.at p fit loop.ids loop.offsets loop.k ∙ (rw left at loop.invariant.4),
     )
 
 pub shape_of-offsets : goal.shape_of-offsets
-shape_of-offsets c = simp length-set c.loop-k.invariant.3
+shape_of-offsets c = simp length-set c.loop-k.invariant.2
 
 pub returns : goal.returns
 returns c =
     let loop = c.loop-k in
     let none : c.args.lists - loop.k ≡ 0 = omega arith in
-    rw c.narrow-2.ensures (offsets-end loop.ids loop.offsets loop.k (drop loop.at c.args.payload.now) ∙ (rw none at loop.invariant.5))
+    let last : c.args.lists ≡ loop.k = omega arith in
+    rw last (offsets-end loop.ids loop.offsets loop.k (drop loop.at c.args.payload.now)) ∙ (rw none at loop.invariant.4)

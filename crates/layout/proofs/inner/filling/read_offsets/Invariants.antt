@@ -11,12 +11,8 @@ use Rattle.layout.proofs.inner.filling.read_offsets.Given as goal
 
 abbrev pub invariant-loop-k : goal.invariant-loop-k
 invariant-loop-k l =
-    (l.k ≤ l.lists)
-    × (l.at ≤ length l.payload)
+    (l.at ≤ length l.payload)
     × (l.ids ≤ 255 * l.k)
     × (length l.offsets ≡ length l.initial.offsets)
     × (lists_fit (l.lists - l.k) (drop l.at l.payload) ≡ true)
     × (sets l.offsets l.k (offsets_from l.ids (lists_in (l.lists - l.k) (drop l.at l.payload))) ≡ sets l.initial.offsets 0 (offsets_from 0 (lists_in l.lists l.payload)))
-
-abbrev pub decreases-loop-k : goal.decreases-loop-k
-decreases-loop-k l = l.lists - l.k

@@ -30,4 +30,4 @@ pub rest_of-requires : goal.rest_of-requires
 rest_of-requires c = begins-framed 4 _ (sym c.begins-4.ensures ∙ c.if-not-begins-4.false)
 
 pub returns : goal.returns
-returns c = sym (framed_is _ c.rest_of-lists.ensures c.rest_of-grid.ensures c.rest_of-forbids.ensures c.rest_of.ensures (sym c.begins.ensures ∙ c.if-not-begins.false) (sym c.begins-2.ensures ∙ c.if-not-begins-2.false) (sym c.begins-3.ensures ∙ c.if-not-begins-3.false) (sym c.begins-4.ensures ∙ c.if-not-begins-4.false) refl)
+returns c = c.is_empty.ensures ∙ sym (framed_is _ c.rest_of-lists.ensures c.rest_of-grid.ensures c.rest_of-forbids.ensures c.rest_of.ensures (sym c.begins.ensures ∙ c.if-not-begins.false) (sym c.begins-2.ensures ∙ c.if-not-begins-2.false) (sym c.begins-3.ensures ∙ c.if-not-begins-3.false) (sym c.begins-4.ensures ∙ c.if-not-begins-4.false) refl)

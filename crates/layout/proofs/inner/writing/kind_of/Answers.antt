@@ -9,6 +9,6 @@ pub returns-then-keep-eq0 : goal.returns-then-keep-eq0
 unfolding kind_of
 returns-then-keep-eq0 c = sym (rw (eq-eqb _ _ c.if-keep-eq0.true))
 
-pub returns : goal.returns
+pub returns-else-keep-eq0 : goal.returns-else-keep-eq0
 unfolding kind_of
-returns c = sym (rw (ne_eqb _ _ c.if-keep-eq0.false))
+returns-else-keep-eq0 c = sym (rw (ne_eqb _ _ c.if-keep-eq0.false))

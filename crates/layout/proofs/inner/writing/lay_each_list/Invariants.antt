@@ -1,9 +1,7 @@
 -- `layout::inner::writing::lay_each_list` meets its contract.
 -- Assumes nothing.
 use mathlib.Core.Path.{◌≡◌}
-use Prim.Native.Nat.{◌-◌, ◌*◌, ◌≤◌}
 use Rattle.records.specs.Laying.{pen, laid}
-use Rattle.adjacency.specs.Tables.{table}
 use Rattle.layout.specs.Sheet.{list_bytes}
 use Rattle.layout.specs.Tables.{lists_of}
 use Rattle.layout.proofs.WritingLaws.{bytes_from}
@@ -11,7 +9,4 @@ use Rattle.layout.proofs.inner.writing.lay_each_list.Given as goal
 
 abbrev pub invariant-loop-k : goal.invariant-loop-k
 invariant-loop-k l =
-    (l.k ≤ 4 * l.count) × (laid (bytes_from (table l.count l.offsets l.ids) l.k) (pen l.out l.place) ≡ laid (list_bytes (lists_of (table l.count l.offsets l.ids))) (pen l.initial.out l.at))
-
-abbrev pub decreases-loop-k : goal.decreases-loop-k
-decreases-loop-k l = 4 * l.count - l.k
+    laid (bytes_from l.table l.k) (pen l.out l.place) ≡ laid (list_bytes (lists_of l.table)) (pen l.initial.out l.at)
