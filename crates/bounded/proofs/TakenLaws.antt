@@ -9,19 +9,18 @@ use lib.Dec.{ltb}
 use lib.ListN.{length, take}
 use borrow.Author.Tests.{lt-ltb, le-ltb, eq-eqb}
 use Rattle.refusals.specs.declared.Refusal.{Refusal}
-use Rattle.refusals.specs.Refusals.{number, first_of, Asked}
+use Rattle.refusals.specs.Refusals.{number, first_of}
 use Rattle.adjacency.specs.Tables.{table}
 use Rattle.grid.specs.Grid.{grid, Sized}
 use Rattle.course.specs.Run.{given}
 use Rattle.forbids.specs.Forbids.{records_in}
-use Rattle.course.specs.Called.{End}
 use Rattle.layout.specs.Sheet.{Sheet}
 use Rattle.layout.specs.Tables.{table_of}
 use Rattle.layout.specs.Reading.{sheet_in}
 use Rattle.std.specs.Prelude.{Ok, Err}
 use Rattle.sheet.specs.declared.Measures.{Measures}
 use Rattle.sheet.specs.Called.{measured}
-use Rattle.bounded.specs.Laid.{too_large, refused, answer, onward, sheet_refusal, large, taken_at, taken_of, ground_of, measure_of, ran_of, laid_of, taken_told, laid_told, run_told, outcome, laid_at, Runnable}
+use Rattle.bounded.specs.Laid.{too_large, refused, answer, onward, sheet_refusal, large, taken_at, taken_of, ground_of, measure_of, ran_of, laid_of, taken_told, laid_told, outcome, laid_at, Runnable}
 use Rattle.refusals.proofs.RefusalLaws.{number-positive}
 use Rattle.adjacency.proofs.AcceptedLaws.{counted}
 use Rattle.sheet.proofs.MeasureLaws.{scalars-is, judged-is}

@@ -3,9 +3,10 @@ ghost use Rattle.std.specs.Prelude.{List, ◌≡◌, ℕ, ◌≤◌, length};
 ghost use Rattle.bounded.specs.declared.inner.Unfit.TheVariants.{Refused};
 ghost use Rattle.bounded.specs.Laid.{taken_told, measure_of, laid_told, outcome, laid_of, laid_at, Held, Front};
 
-use memory::{offsets_to_lend, weights_to_lend};
+use memory::{Forbids, Ids, Offsets, Weights};
 use refusals::Refusal;
 use run::Ending;
+use transfer::room;
 
 pub mod memory;
 mod reading;
@@ -48,10 +49,10 @@ pub fn measure(sheet: &[u8], formed: bool) -> Result<Ground, Unfit>
     requires { Front sheet.now formed }
     ensures { (b : List ℕ) → Held b sheet.now formed → taken_told result ≡ measure_of b }
 {
-    let mut weights = weights_to_lend();
-    let mut offsets = offsets_to_lend();
-    let mut ids = memory::ids_to_lend();
-    let mut forbids = memory::forbids_to_lend();
+    let mut weights: Weights = room(0);
+    let mut offsets: Offsets = room(0);
+    let mut ids: Ids = room(0);
+    let mut forbids: Forbids = room(0);
     let m = reading::read_in(
         sheet,
         formed,
@@ -85,10 +86,10 @@ pub fn lay(
     ensures { (b : List ℕ) → Held b sheet.now formed → outcome (laid_told result) domains.new out.new
         ≡ laid_at (laid_of b noise.now words.now) domains.old out.old }
 {
-    let mut weights = weights_to_lend();
-    let mut offsets = offsets_to_lend();
-    let mut ids = memory::ids_to_lend();
-    let mut forbids = memory::forbids_to_lend();
+    let mut weights: Weights = room(0);
+    let mut offsets: Offsets = room(0);
+    let mut ids: Ids = room(0);
+    let mut forbids: Forbids = room(0);
     running::lay_in(
         sheet,
         formed,

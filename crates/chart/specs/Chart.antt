@@ -74,13 +74,17 @@ entry_text named p cells = ascii "  " ++ (glyph p ∷ []) ++ padded 6 cells ++ a
 unfoldable pub some_text : Bool → List ℕ → ℕ → List ℕ
 some_text named domains p = cond (eqb (tally (alike (alone p)) domains) 0) [] (entry_text named p (tally (alike (alone p)) domains))
 
--- the cells that are told by number, where there are any
-unfoldable pub open_text : ℕ → List ℕ
-open_text cells = cond (eqb cells 0) [] (ascii " 2+" ++ padded 6 cells ++ ascii "  undecided: the number says how many patterns remain\n")
+-- the cells of a sign that is no pattern's: how many, and what it says, where there are any
+unfoldable pub count_text : List ℕ → ℕ → List ℕ → List ℕ
+count_text sign cells meaning = cond (eqb cells 0) [] (sign ++ padded 6 cells ++ meaning)
 
--- the cells without a pattern, where there are any
-unfoldable pub empty_text : ℕ → List ℕ
-empty_text cells = cond (eqb cells 0) [] (ascii "  ?" ++ padded 6 cells ++ ascii "  empty: no pattern remains\n")
+-- the cells that are told by number
+abbrev pub open_text : ℕ → List ℕ
+open_text cells = count_text (ascii " 2+") cells (ascii "  undecided: the number says how many patterns remain\n")
+
+-- the cells without a pattern
+abbrev pub empty_text : ℕ → List ℕ
+empty_text cells = count_text (ascii "  ?") cells (ascii "  empty: no pattern remains\n")
 
 unfoldable pub legend_text : Bool → List ℕ → List ℕ
 legend_text named domains = texts (some_text named domains) 0 64 ++ open_text (tally (holding 2) domains) ++ empty_text (tally (alike 0) domains)

@@ -1,4 +1,2 @@
 pub mod ArgumentLaws
-pub mod FileLaws
 pub mod SentenceLaws
-pub mod Unique

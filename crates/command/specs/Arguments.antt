@@ -1,101 +1,134 @@
 -- The arguments of `ocean`: --seed and a number, --svg and a file, and files in their order. Follows docs/RULES.md, "Programs".
 -- Assumes nothing.
-use Rattle.std.specs.Prelude.{Bool, true, false, cond, ◌&&◌, List, [], ◌∷◌, ◌≡◌, ℕ, zero, suc, ◌+◌, ◌-◌, ◌*◌, ◌^◌, eqb, leb, ltb, length, get_or, set}
-use Rattle.std.proofs.Math.Option.{Option, none, some}
-use Rattle.loops.specs.Tests.{all_to}
+use Rattle.std.specs.Prelude.{Bool, cond, ◌&&◌, Option, Some, None, is_some, is_none, List, [], ◌∷◌, ◌≡◌, ℕ, zero, suc, ◌+◌, ◌-◌, ◌*◌, ◌^◌, eqb, leb, ltb, length, get_or, set, position}
+use Rattle.std.specs.Cmp.Lexicographic.{pointwise}
 use Rattle.text.specs.Pages.{ascii}
-use Rattle.command.specs.declared.arguments.Number.{Number}
-use Rattle.command.specs.declared.arguments.Number.TheVariants.{Is, Not}
+use Rattle.command.specs.declared.arguments.Fault.{Fault}
+use Rattle.command.specs.declared.arguments.Wait.{Wait}
+use Rattle.command.specs.declared.arguments.Kind.{Kind}
 use Rattle.command.specs.declared.arguments.Plan.{Plan}
+use Rattle.command.specs.declared.arguments.Fault.TheVariants as wrong
+use Rattle.command.specs.declared.arguments.Wait.TheVariants as for
+use Rattle.command.specs.declared.arguments.Kind.TheVariants as kind
 
--- whether two texts are the same
-unfoldable pub same_text : List ℕ → List ℕ → Bool
-same_text a b = eqb (length a) (length b) && all_to (length a) (λ i. eqb (get_or a i 0) (get_or b i 0))
+-- the number of a fault's sentence: 1 no seed, 2 no picture's file, 3 another option, 4 too many files, 5 a sheet without noise and words, 6 a seed beside
+-- them, 7 a name that two files have, 8 a sheet that is too large, 9 a name that is missing
+abbrev pub fault_number : Fault → ℕ
+fault_number wrong.NoSeed = 1
+fault_number wrong.NoPicture = 2
+fault_number wrong.NoSuchOption = 3
+fault_number wrong.TooManyFiles = 4
+fault_number wrong.NoNoise = 5
+fault_number wrong.SeedAndNoise = 6
+fault_number wrong.Clash = 7
+fault_number wrong.TooLarge = 8
+fault_number wrong.NoName = 9
+
+-- whether two texts are the same: as long, and the same byte for byte
+abbrev pub same_text : List ℕ → List ℕ → Bool
+same_text a b = pointwise eqb a b
 
 -- whether a text starts with a dash and goes on, as an option does
-unfoldable pub dashed : List ℕ → Bool
+abbrev pub dashed : List ℕ → Bool
 dashed t = leb 2 (length t) && eqb (get_or t 0 0) 45
 
--- what an argument is: 0 a file's name, 1 --seed, 2 --svg, 3 another option
-unfoldable pub kind_of : List ℕ → ℕ
-kind_of t = cond (same_text t (ascii "--seed")) 1 (cond (same_text t (ascii "--svg")) 2 (cond (dashed t) 3 0))
+-- what an argument is: a file's name, --seed, --svg, or another option
+abbrev pub kind_of : List ℕ → Kind
+kind_of t =
+    cond (same_text t (ascii "--seed")) (kind.Waits for.Seed)
+    (cond (same_text t (ascii "--svg")) (kind.Waits for.Picture) (cond (dashed t) kind.Other kind.File))
 
 -- ---- a number
 
--- the number that an answer holds
-unfoldable pub number_told : Number → Option ℕ
-number_told (Is n) = some n
-number_told Not = none
-
 -- one digit more, where it is a digit and the number stays below 2^32
-unfoldable pub digit_more : ℕ → ℕ → Option ℕ
-digit_more value byte = cond (leb 48 byte && leb byte 57 && ltb (value * 10 + (byte - 48)) (2 ^ 32)) (some (value * 10 + (byte - 48))) none
+abbrev pub digit_more : ℕ → ℕ → Option ℕ
+digit_more value byte = cond (leb 48 byte && leb byte 57 && ltb (value * 10 + (byte - 48)) (2 ^ 32)) (Some (value * 10 + (byte - 48))) None
 
 -- what follows from a number, where there is one
 unfoldable pub onward : Option ℕ → (ℕ → Option ℕ) → Option ℕ
-onward none k = none
-onward (some n) k = k n
+onward None k = None
+onward (Some n) k = k n
 
 -- the digits of a text after a number
 unfoldable pub read_from : List ℕ → ℕ → Option ℕ
-read_from [] value = some value
+read_from [] value = Some value
 read_from (b ∷ t) value = onward (digit_more value b) (read_from t)
 
 -- the number that a text holds in decimal
-unfoldable pub number_in : List ℕ → Option ℕ
-number_in t = cond (eqb (length t) 0) none (read_from t 0)
+abbrev pub number_in : List ℕ → Option ℕ
+number_in t = cond (eqb (length t) 0) None (read_from t 0)
 
 -- ---- the arguments
 
--- seed, whether it was given, the picture's argument, the files' arguments and their count, what the next one is for, the fault
-abbrev pub plan : ℕ → Bool → ℕ → List ℕ → ℕ → ℕ → ℕ → Plan
-plan seed seeded svg files count waits fault =
-    record { seed = seed; seeded = seeded; svg = svg; files = files; count = count; waits = waits; fault = fault }
-
 -- before the first argument
-unfoldable pub empty_plan : Plan
-empty_plan = plan 0 false 0 (0 ∷ 0 ∷ 0 ∷ 0 ∷ []) 0 0 0
+abbrev pub empty_plan : Plan
+empty_plan = record { seed = None; svg = None; files = None ∷ None ∷ None ∷ None ∷ []; waits = None; fault = None }
 
--- a fault: 1 no seed, 2 no picture's file, 3 another option, 4 too many files, 5 a sheet without noise and words, 6 a seed beside them
-unfoldable pub with_fault : Plan → ℕ → Plan
-with_fault p fault = plan p.seed p.seeded p.svg p.files p.count p.waits fault
+abbrev pub with_fault : Plan → Fault → Plan
+with_fault p fault = record p { fault = Some fault }
 
-unfoldable pub with_wait : Plan → ℕ → Plan
-with_wait p waits = plan p.seed p.seeded p.svg p.files p.count waits p.fault
+abbrev pub with_wait : Plan → Wait → Plan
+with_wait p wait = record p { waits = Some wait }
 
 -- the seed that a text holds
-unfoldable pub with_number : Plan → Option ℕ → Plan
-with_number p none = with_fault p 1
-with_number p (some seed) = plan seed true p.svg p.files p.count 0 p.fault
+abbrev pub with_number : Plan → Option ℕ → Plan
+with_number p None = with_fault p wrong.NoSeed
+with_number p (Some seed) = record p { seed = Some seed; waits = None }
 
-unfoldable pub with_seed : Plan → List ℕ → Plan
+abbrev pub with_seed : Plan → List ℕ → Plan
 with_seed p text = with_number p (number_in text)
 
 -- the picture's file, which is no option
-unfoldable pub with_svg : Plan → ℕ → List ℕ → Plan
-with_svg p index text = cond (dashed text) (with_fault p 2) (plan p.seed p.seeded index p.files p.count 0 p.fault)
+abbrev pub with_svg : Plan → ℕ → List ℕ → Plan
+with_svg p index text = cond (dashed text) (with_fault p wrong.NoPicture) (record p { svg = Some index; waits = None })
 
-unfoldable pub with_file : Plan → ℕ → Plan
-with_file p index =
-    cond (ltb p.count 4) (plan p.seed p.seeded p.svg (set p.files p.count index) (p.count + 1) p.waits p.fault) (with_fault p 4)
+-- a file in the first place that names none
+abbrev pub file_in : Plan → ℕ → Option ℕ → Plan
+file_in p index None = with_fault p wrong.TooManyFiles
+file_in p index (Some k) = record p { files = set p.files k (Some index) }
 
--- an argument that no option waits for
-unfoldable pub with_word : Plan → ℕ → List ℕ → Plan
-with_word p index text = cond (eqb (kind_of text) 0) (with_file p index) (cond (eqb (kind_of text) 3) (with_fault p 3) (with_wait p (kind_of text)))
+abbrev pub with_file : Plan → ℕ → Plan
+with_file p index = file_in p index (position is_none p.files)
+
+-- an argument of a kind that no option waits for
+abbrev pub with_kind : Plan → ℕ → Kind → Plan
+with_kind p index kind.File = with_file p index
+with_kind p index (kind.Waits wait) = with_wait p wait
+with_kind p index kind.Other = with_fault p wrong.NoSuchOption
+
+abbrev pub with_word : Plan → ℕ → List ℕ → Plan
+with_word p index text = with_kind p index (kind_of text)
+
+-- an argument that an option may wait for
+abbrev pub waited : Plan → ℕ → List ℕ → Option Wait → Plan
+waited p index text None = with_word p index text
+waited p index text (Some for.Seed) = with_seed p text
+waited p index text (Some for.Picture) = with_svg p index text
 
 -- one argument more, by its number and its text; after a fault nothing more is read
-unfoldable pub stepped : Plan → ℕ → List ℕ → Plan
-stepped p index text =
-    cond (eqb p.fault 0)
-    (cond (eqb p.waits 1) (with_seed p text) (cond (eqb p.waits 2) (with_svg p index text) (with_word p index text)))
-    p
+abbrev pub stepped : Plan → ℕ → List ℕ → Plan
+stepped p index text = cond (is_some p.fault) p (waited p index text p.waits)
 
--- after the last argument: the first fault, or 0
-unfoldable pub fault_of : Plan → ℕ
-fault_of p =
-    cond (eqb p.fault 0)
-    (cond (eqb p.waits 0) (cond p.seeded (cond (ltb p.count 3) 0 6) (cond (eqb p.count 0) 0 (cond (ltb p.count 3) 5 0))) p.waits)
-    p.fault
+-- the argument that names file number k, counted from 0
+abbrev pub file_at : Plan → ℕ → Option ℕ
+file_at p k = get_or p.files k None
+
+-- what is wrong with the files: with a seed there are at most two, and without one a sheet has noise and words beside it
+abbrev pub files_fault : Plan → Option Fault
+files_fault p =
+    cond (is_some p.seed)
+    (cond (is_some (file_at p 2)) (Some wrong.SeedAndNoise) None)
+    (cond (is_some (file_at p 0) && is_none (file_at p 2)) (Some wrong.NoNoise) None)
+
+-- what an option that still waits lacks
+abbrev pub unmet : Plan → Option Wait → Option Fault
+unmet p None = files_fault p
+unmet p (Some for.Seed) = Some wrong.NoSeed
+unmet p (Some for.Picture) = Some wrong.NoPicture
+
+-- after the last argument: the first fault
+abbrev pub fault_of : Plan → Option Fault
+fault_of p = cond (is_some p.fault) p.fault (unmet p p.waits)
 
 -- ---- all of them
 

@@ -4,6 +4,8 @@ use Rattle.std.specs.Prelude.{cond, ◌||◌, List, [], ◌∷◌, ◌++◌, ℕ
 use Rattle.text.specs.Pages.{ascii, line}
 use Rattle.text.specs.Numbers.{decimal}
 use Rattle.faults.specs.declared.inner.Place.{Place}
+use Rattle.command.specs.declared.sentences.FileFault.{FileFault}
+use Rattle.command.specs.declared.sentences.FileFault.TheVariants as wrong
 use Rattle.command.specs.Places.{where_text}
 
 -- the name of each refusal and what it means, one to a line, from 0 for none
@@ -26,6 +28,15 @@ fault_text fault = ascii "ocean: " ++ line fault faults ++ ascii ".\n"
 -- what is wrong with a file, one to a line, from 0 for nothing
 unfoldable pub file_faults : List ℕ
 file_faults = ascii "\nthere is no such file, or no such folder on the way to it\nthis names a folder, not a file\nthis may not be opened\nthis cannot be opened, read or written\nthis ends within a word, and noise and words are files of 32-bit words\nthis could not be written to its end"
+
+-- the number of a file's fault
+abbrev pub file_number : FileFault → ℕ
+file_number wrong.Missing = 1
+file_number wrong.Folder = 2
+file_number wrong.Forbidden = 3
+file_number wrong.Unusable = 4
+file_number wrong.Cut = 5
+file_number wrong.Unwritten = 6
 
 -- a byte of a name as it is shown: a question mark for what would not stay in the line, or would steer a terminal
 unfoldable pub shown_byte : ℕ → ℕ

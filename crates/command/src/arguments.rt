@@ -1,109 +1,100 @@
-// The arguments, one after the other: options, and files in their order. A fault is a number, with a sentence for each.
-ghost use Rattle.std.specs.Prelude.{◌≡◌, ◌+◌, ◌*◌, ◌-◌, ◌<◌};
+// The arguments, one after the other: options, and files in their order.
+ghost use Rattle.std.specs.Prelude.{◌≡◌, position, is_none};
 ghost use Rattle.command.specs.Arguments as meaning;
-ghost use Rattle.command.specs.Arguments.{same_text, kind_of, number_told, digit_more, number_in, empty_plan, with_fault, with_wait, with_seed, with_svg, with_file, with_word, stepped, fault_of};
+ghost use Rattle.command.specs.Arguments.{fault_number, kind_of, digit_more, number_in, empty_plan, with_fault, with_wait, with_seed, with_svg, with_file, with_word, stepped, fault_of};
 
-// A number that was read, or none.
+// What is wrong with what is asked, in the order of its sentences.
 #[derive(Clone, Copy)]
-pub enum Number {
-    Is(u32),
-    Not,
+pub enum Fault {
+    NoSeed,
+    NoPicture,
+    NoSuchOption,
+    TooManyFiles,
+    NoNoise,
+    SeedAndNoise,
+    Clash,
+    TooLarge,
+    NoName,
+}
+
+// The number of its sentence.
+pub fn fault_number(fault: Fault) -> usize
+    ensures { result ≡ fault_number fault }
+{
+    fault as usize + 1
+}
+
+// What an option wants in the argument after it.
+#[derive(Clone, Copy)]
+pub enum Wait {
+    Seed,
+    Picture,
+}
+
+// What an argument is that no option waits for: a file's name, an option, or what looks like one.
+#[derive(Clone, Copy)]
+enum Kind {
+    File,
+    Waits(Wait),
+    Other,
 }
 
 // What the arguments ask for so far.
 #[derive(Clone, Copy)]
 pub struct Plan {
-    // The seed, where `seeded`.
-    pub seed: u32,
-    pub seeded: bool,
-    // Which argument names the picture's file; 0 for none.
-    pub svg: usize,
-    // Which arguments name files, and how many do.
-    pub files: [usize; 4],
-    pub count: usize,
-    // What the next argument is for: 0 itself, 1 the seed, 2 the picture.
-    pub waits: usize,
-    // The first fault, or 0.
-    pub fault: usize,
-}
-
-// Whether two texts are the same.
-pub fn same(a: &[u8], b: &[u8]) -> bool
-    ensures { result ≡ same_text a.now b.now }
-{
-    if a.len() != b.len() {
-        return false;
-    }
-    let mut i = 0;
-    while i < a.len() {
-        if a[i] != b[i] {
-            return false;
-        }
-        i += 1;
-    }
-    true
+    pub seed: Option<u32>,
+    // Which argument names the picture's file, and which ones name the others, in their order.
+    pub svg: Option<usize>,
+    pub files: [Option<usize>; 4],
+    // What the next argument is for, where an option waits.
+    pub waits: Option<Wait>,
+    // The first fault.
+    pub fault: Option<Fault>,
 }
 
 // Whether a text starts as an option does.
 fn dashed(text: &[u8]) -> bool
     ensures { result ≡ meaning.dashed text.now }
 {
-    if text.len() < 2 {
-        return false;
-    }
-    text[0] == b'-'
+    text.len() >= 2 && text[0] == b'-'
 }
 
-// What an argument is: 0 a file's name, 1 --seed, 2 --svg, 3 another option.
-fn kind_of(text: &[u8]) -> usize
+fn kind_of(text: &[u8]) -> Kind
     ensures { result ≡ kind_of text.now }
 {
-    if same(text, b"--seed") {
-        return 1;
+    if text == b"--seed".as_slice() {
+        Kind::Waits(Wait::Seed)
+    } else if text == b"--svg".as_slice() {
+        Kind::Waits(Wait::Picture)
+    } else if dashed(text) {
+        Kind::Other
+    } else {
+        Kind::File
     }
-    if same(text, b"--svg") {
-        return 2;
-    }
-    if dashed(text) {
-        return 3;
-    }
-    0
 }
 
 // One digit more, where it is a digit and the number stays below 2^32.
-fn digit_more(value: u32, byte: u8) -> Number
-    ensures { number_told result ≡ digit_more value byte }
+fn digit_more(value: u32, byte: u8) -> Option<u32>
+    ensures { result ≡ digit_more value byte }
 {
-    if byte < b'0' {
-        return Number::Not;
+    if !byte.is_ascii_digit() {
+        return None;
     }
-    if b'9' < byte {
-        return Number::Not;
-    }
-    let next = (value as u64) * 10 + ((byte - b'0') as u64);
-    if next < 4294967296 {
-        return Number::Is(next as u32);
-    }
-    Number::Not
+    value.checked_mul(10)?.checked_add(u32::from(byte - b'0'))
 }
 
 // The number that a text holds in decimal.
-pub fn number_in(text: &[u8]) -> Number
-    ensures { number_told result ≡ number_in text.now }
+pub fn number_in(text: &[u8]) -> Option<u32>
+    ensures { result ≡ number_in text.now }
 {
-    if text.len() == 0 {
-        return Number::Not;
+    if text.is_empty() {
+        return None;
     }
-    let mut value: u32 = 0;
-    let mut i = 0;
-    while i < text.len() {
-        let Number::Is(next) = digit_more(value, text[i]) else {
-            return Number::Not;
-        };
-        value = next;
-        i += 1;
+    let mut value = 0;
+    for byte in text {
+        value = digit_more(value, *byte)?;
     }
-    Number::Is(value)
+    Some(value)
 }
 
 // Before the first argument.
@@ -111,46 +102,44 @@ pub fn begin() -> Plan
     ensures { result ≡ empty_plan }
 {
     Plan {
-        seed: 0,
-        seeded: false,
-        svg: 0,
-        files: [0; 4],
-        count: 0,
-        waits: 0,
-        fault: 0,
+        seed: None,
+        svg: None,
+        files: [None; 4],
+        waits: None,
+        fault: None,
     }
 }
 
-// A fault.
-fn with_fault(plan: Plan, fault: usize) -> Plan
+fn with_fault(plan: Plan, fault: Fault) -> Plan
     ensures { result ≡ with_fault plan fault }
 {
-    let mut next = plan;
-    next.fault = fault;
-    next
+    Plan {
+        fault: Some(fault),
+        ..plan
+    }
 }
 
 // What the next argument is for.
-fn with_wait(plan: Plan, waits: usize) -> Plan
-    ensures { result ≡ with_wait plan waits }
+fn with_wait(plan: Plan, wait: Wait) -> Plan
+    ensures { result ≡ with_wait plan wait }
 {
-    let mut next = plan;
-    next.waits = waits;
-    next
+    Plan {
+        waits: Some(wait),
+        ..plan
+    }
 }
 
-// The seed.
 fn with_seed(plan: Plan, text: &[u8]) -> Plan
     ensures { result ≡ with_seed plan text.now }
 {
-    let Number::Is(seed) = number_in(text) else {
-        return with_fault(plan, 1);
-    };
-    let mut next = plan;
-    next.seed = seed;
-    next.seeded = true;
-    next.waits = 0;
-    next
+    match number_in(text) {
+        None => with_fault(plan, Fault::NoSeed),
+        Some(seed) => Plan {
+            seed: Some(seed),
+            waits: None,
+            ..plan
+        },
+    }
 }
 
 // The picture's file. An option in its place says that the name was forgotten.
@@ -158,81 +147,88 @@ fn with_svg(plan: Plan, index: usize, text: &[u8]) -> Plan
     ensures { result ≡ with_svg plan index text.now }
 {
     if dashed(text) {
-        return with_fault(plan, 2);
+        return with_fault(plan, Fault::NoPicture);
     }
-    let mut next = plan;
-    next.svg = index;
-    next.waits = 0;
-    next
+    Plan {
+        svg: Some(index),
+        waits: None,
+        ..plan
+    }
 }
 
-// A file.
+// The first place that names no file.
+fn free(files: &[Option<usize>; 4]) -> Option<usize>
+    ensures { result ≡ position is_none files.now }
+{
+    files.iter().position(|file| file.is_none())
+}
+
 fn with_file(plan: Plan, index: usize) -> Plan
     ensures { result ≡ with_file plan index }
 {
-    let count = plan.count;
-    if count < 4 {
-        let mut files = plan.files;
-        files[count] = index;
-        let mut next = plan;
-        next.files = files;
-        next.count = count + 1;
-        return next;
+    match free(&plan.files) {
+        None => with_fault(plan, Fault::TooManyFiles),
+        Some(k) => {
+            let mut files = plan.files;
+            files[k] = Some(index);
+            Plan { files, ..plan }
+        }
     }
-    with_fault(plan, 4)
 }
 
 // An argument that no option waits for.
 fn with_word(plan: Plan, index: usize, text: &[u8]) -> Plan
     ensures { result ≡ with_word plan index text.now }
 {
-    let kind = kind_of(text);
-    if kind == 0 {
-        return with_file(plan, index);
+    match kind_of(text) {
+        Kind::File => with_file(plan, index),
+        Kind::Waits(wait) => with_wait(plan, wait),
+        Kind::Other => with_fault(plan, Fault::NoSuchOption),
     }
-    if kind == 3 {
-        return with_fault(plan, 3);
-    }
-    with_wait(plan, kind)
 }
 
 // One argument more, by its number and its text.
 pub fn step(plan: Plan, index: usize, text: &[u8]) -> Plan
     ensures { result ≡ stepped plan index text.now }
 {
-    if plan.fault != 0 {
+    if plan.fault.is_some() {
         return plan;
     }
-    if plan.waits == 1 {
-        return with_seed(plan, text);
+    match plan.waits {
+        Some(Wait::Seed) => with_seed(plan, text),
+        Some(Wait::Picture) => with_svg(plan, index, text),
+        None => with_word(plan, index, text),
     }
-    if plan.waits == 2 {
-        return with_svg(plan, index, text);
-    }
-    with_word(plan, index, text)
 }
 
-// After the last argument: the first fault, or 0.
-pub fn fault_of(plan: Plan) -> usize
+// What is wrong with the files, by whether there is a seed.
+fn files_fault(plan: Plan) -> Option<Fault>
+    ensures { result ≡ meaning.files_fault plan }
+{
+    let [first, _, third, _] = plan.files;
+    if plan.seed.is_some() {
+        return if third.is_some() {
+            Some(Fault::SeedAndNoise)
+        } else {
+            None
+        };
+    }
+    if first.is_some() && third.is_none() {
+        return Some(Fault::NoNoise);
+    }
+    None
+}
+
+// After the last argument: the first fault.
+pub fn fault_of(plan: Plan) -> Option<Fault>
     ensures { result ≡ fault_of plan }
 {
-    if plan.fault != 0 {
+    if plan.fault.is_some() {
         return plan.fault;
     }
-    if plan.waits != 0 {
-        return plan.waits;
+    match plan.waits {
+        Some(Wait::Seed) => Some(Fault::NoSeed),
+        Some(Wait::Picture) => Some(Fault::NoPicture),
+        None => files_fault(plan),
     }
-    if plan.seeded {
-        if plan.count < 3 {
-            return 0;
-        }
-        return 6;
-    }
-    if plan.count == 0 {
-        return 0;
-    }
-    if plan.count < 3 {
-        return 5;
-    }
-    0
 }

@@ -1,26 +1,27 @@
 // The files of a command: which arguments name them, what is wrong with the names, and how many words were read.
 ghost use Rattle.std.specs.Prelude.{◌≡◌};
-ghost use Rattle.command.specs.Arguments.{number_told};
-ghost use Rattle.command.specs.Files.{names_of, seed_of, shared_name, read_too, clashes, nameless, read_nameless, any_nameless, names_fault, words_told, whole_words, noise_words};
+ghost use Rattle.command.specs.Files.{names_of, seed_of, shared_name, read_too, clashes, nameless, read_nameless, any_nameless, names_fault, whole_words, noise_words};
 
-use crate::arguments::{Number, Plan, same};
-use crate::sentences::{CLASH, NO_NAME};
+use crate::arguments::{Fault, Plan};
 
-// Which arguments name the files, 0 for none.
+// Which arguments name the files.
 #[derive(Clone, Copy)]
 pub struct Names {
-    pub sheet: usize,
-    pub noise: usize,
-    pub words: usize,
-    pub result: usize,
-    pub picture: usize,
+    pub sheet: Option<usize>,
+    pub noise: Option<usize>,
+    pub words: Option<usize>,
+    pub result: Option<usize>,
+    pub picture: Option<usize>,
 }
 
-// How many words a file has, or that it ends within one.
+// The texts of those arguments, the empty one where there is none.
 #[derive(Clone, Copy)]
-pub enum Words {
-    Whole(usize),
-    Cut,
+pub struct Texts<'a> {
+    pub sheet: &'a [u8],
+    pub noise: &'a [u8],
+    pub words: &'a [u8],
+    pub result: &'a [u8],
+    pub picture: &'a [u8],
 }
 
 // The names of the files: with a seed there is no noise and no words.
@@ -28,11 +29,11 @@ pub fn names_of(plan: Plan) -> Names
     ensures { result ≡ names_of plan }
 {
     let files = plan.files;
-    if plan.seeded {
+    if plan.seed.is_some() {
         return Names {
             sheet: files[0],
-            noise: 0,
-            words: 0,
+            noise: None,
+            words: None,
             result: files[1],
             picture: plan.svg,
         };
@@ -47,133 +48,90 @@ pub fn names_of(plan: Plan) -> Names
 }
 
 // The seed of noise and words, or none where they are read from files.
-pub fn seed_of(plan: Plan) -> Number
-    ensures { number_told result ≡ seed_of plan }
+pub fn seed_of(plan: Plan) -> Option<u32>
+    ensures { result ≡ seed_of plan }
 {
-    if plan.seeded {
-        return Number::Is(plan.seed);
+    if plan.seed.is_none() && plan.files[0].is_none() {
+        return Some(7);
     }
-    if plan.count == 0 {
-        return Number::Is(7);
-    }
-    Number::Not
+    plan.seed
 }
 
 // Whether a file is named, and another has the same name.
 fn shared(name: &[u8], other: &[u8]) -> bool
     ensures { result ≡ shared_name name.now other.now }
 {
-    if name.len() == 0 {
-        return false;
-    }
-    same(name, other)
+    !name.is_empty() && name == other
 }
 
 // Whether a file that is to be written has the name of one that is read.
-fn read_too(name: &[u8], sheet: &[u8], noise: &[u8], words: &[u8]) -> bool
-    ensures { result ≡ read_too name.now sheet.now noise.now words.now }
+fn read_too(name: &[u8], texts: &Texts) -> bool
+    ensures { result ≡ read_too name.now texts.now.sheet.now texts.now.noise.now texts.now.words.now }
 {
-    if shared(name, sheet) {
-        return true;
-    }
-    if shared(name, noise) {
-        return true;
-    }
-    shared(name, words)
+    shared(name, texts.sheet) || shared(name, texts.noise) || shared(name, texts.words)
 }
 
 // Whether a file that is to be written has the name of another; a file that is not asked for has the empty name.
-fn clash(sheet: &[u8], noise: &[u8], words: &[u8], res: &[u8], picture: &[u8]) -> bool
-    ensures { result ≡ clashes sheet.now noise.now words.now res.now picture.now }
+fn clash(texts: &Texts) -> bool
+    ensures { result ≡ clashes texts.now.sheet.now texts.now.noise.now texts.now.words.now texts.now.result.now texts.now.picture.now }
 {
-    if shared(res, picture) {
-        return true;
-    }
-    if read_too(res, sheet, noise, words) {
-        return true;
-    }
-    read_too(picture, sheet, noise, words)
+    shared(texts.result, texts.picture)
+        || read_too(texts.result, texts)
+        || read_too(texts.picture, texts)
 }
 
-// Whether a file is asked for, by the number of its argument, and has no name.
-fn unnamed(index: usize, text: &[u8]) -> bool
+// Whether a file is asked for and has no name.
+fn unnamed(index: Option<usize>, text: &[u8]) -> bool
     ensures { result ≡ nameless index text.now }
 {
-    if index == 0 {
-        return false;
-    }
-    text.len() == 0
+    index.is_some() && text.is_empty()
 }
 
 // Whether a file that is read has no name.
-fn read_unnamed(names: Names, sheet: &[u8], noise: &[u8], words: &[u8]) -> bool
-    ensures { result ≡ read_nameless names sheet.now noise.now words.now }
+fn read_unnamed(names: Names, texts: &Texts) -> bool
+    ensures { result ≡ read_nameless names texts.now.sheet.now texts.now.noise.now texts.now.words.now }
 {
-    if unnamed(names.sheet, sheet) {
-        return true;
-    }
-    if unnamed(names.noise, noise) {
-        return true;
-    }
-    unnamed(names.words, words)
+    unnamed(names.sheet, texts.sheet)
+        || unnamed(names.noise, texts.noise)
+        || unnamed(names.words, texts.words)
 }
 
 // Whether a file that is written or read has no name.
-fn any_unnamed(
-    names: Names,
-    sheet: &[u8],
-    noise: &[u8],
-    words: &[u8],
-    res: &[u8],
-    picture: &[u8],
-) -> bool
-    ensures { result ≡ any_nameless names sheet.now noise.now words.now res.now picture.now }
+fn any_unnamed(names: Names, texts: &Texts) -> bool
+    ensures { result ≡ any_nameless names texts.now.sheet.now texts.now.noise.now texts.now.words.now texts.now.result.now texts.now.picture.now }
 {
-    if unnamed(names.result, res) {
-        return true;
-    }
-    if unnamed(names.picture, picture) {
-        return true;
-    }
-    read_unnamed(names, sheet, noise, words)
+    unnamed(names.result, texts.result)
+        || unnamed(names.picture, texts.picture)
+        || read_unnamed(names, texts)
 }
 
-// What is wrong with the names of the files, by the texts of their arguments, the empty one where there is none: the fault's number, or 0.
-pub fn fault_of(
-    names: Names,
-    sheet: &[u8],
-    noise: &[u8],
-    words: &[u8],
-    res: &[u8],
-    picture: &[u8],
-) -> usize
-    ensures { result ≡ names_fault names sheet.now noise.now words.now res.now picture.now }
+// What is wrong with the names of the files, by their texts.
+pub fn fault_of(names: Names, texts: &Texts) -> Option<Fault>
+    ensures { result ≡ names_fault names texts.now.sheet.now texts.now.noise.now texts.now.words.now texts.now.result.now texts.now.picture.now }
 {
-    if any_unnamed(names, sheet, noise, words, res, picture) {
-        return NO_NAME;
+    if any_unnamed(names, texts) {
+        Some(Fault::NoName)
+    } else if clash(texts) {
+        Some(Fault::Clash)
+    } else {
+        None
     }
-    if clash(sheet, noise, words, res, picture) {
-        return CLASH;
-    }
-    0
 }
 
-// How many words so many bytes are.
-pub fn whole_words(bytes: usize) -> Words
-    ensures { words_told result ≡ whole_words bytes }
+// How many words so many bytes are, or none where they end within one.
+pub fn whole_words(bytes: usize) -> Option<usize>
+    ensures { result ≡ whole_words bytes }
 {
     if bytes % 4 == 0 {
-        return Words::Whole(bytes / 4);
+        Some(bytes / 4)
+    } else {
+        None
     }
-    Words::Cut
 }
 
 // How many noise words a file has, of which so many bytes were read and `more` follow or not.
-pub fn noise_words(bytes: usize, more: bool) -> Words
-    ensures { words_told result ≡ noise_words bytes more }
+pub fn noise_words(bytes: usize, more: bool) -> Option<usize>
+    ensures { result ≡ noise_words bytes more }
 {
-    if more {
-        return Words::Whole(1025);
-    }
-    whole_words(bytes)
+    if more { Some(1025) } else { whole_words(bytes) }
 }

@@ -1,1 +1,2 @@
 pub mod ColourLaws
+pub mod PictureLaws

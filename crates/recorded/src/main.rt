@@ -26,8 +26,13 @@ mod sheets;
 fn main(rt: HostRuntime) {
     let mut input = rt.reader();
     for _ in 0..u64::MAX {
-        if !calls::next(&rt, &mut input) {
-            return;
+        match calls::next(&rt, &mut input) {
+            Ok(true) => {}
+            Ok(false) => return,
+            Err(stop) => {
+                print::wrong(&rt, stop);
+                return;
+            }
         }
     }
 }

@@ -1,210 +1,108 @@
 // Sheets: a call that writes one or reads one is made and told. Lent memory starts full of sevens, and what is told ends with how many of them stayed.
-ghost use Rattle.std.specs.Prelude.{◌≡◌, ◌≤◌, length};
-
-use crate::calls::{wide, within};
+use crate::calls::lent;
+use crate::input::{Head, Slices};
 use crate::print;
-use sheet::{Measures, SizesAnswer, Written};
-use stream::inner::least;
+use refusals::Refusal;
+use sheet::Measures;
+use transfer::{front, room};
 
-// Memory to lend. That it is so long is all that is said of it.
-fn bytes_to_lend() -> [u8; 131072]
-    ensures { 131072 ≡ length result }
-{
-    [7; 131072]
-}
+type Bytes = [u8; 131072];
 
-fn numbers_to_lend() -> [u32; 16384]
-    ensures { 16384 ≡ length result }
-{
-    [7; 16384]
-}
+type Numbers = [u32; 16384];
 
-// One for a seven among the bytes from there up to there, nothing for another.
-fn byte_seven(bytes: &[u8; 131072], i: usize, from: usize, to: usize) -> usize
-    ensures { result ≤ 1 }
-{
-    if i < from {
-        return 0;
-    }
-    if to <= i {
-        return 0;
-    }
-    if 131072 <= i {
-        return 0;
-    }
-    if bytes[i] == 7 {
-        return 1;
-    }
-    0
-}
-
-// How many sevens are there.
-fn byte_sevens(bytes: &[u8; 131072], from: usize, to: usize) -> usize {
-    let mut sevens = 0;
-    for i in 0..131072 {
-        sevens += byte_seven(bytes, i, from, to);
-    }
-    sevens
-}
-
-// One for a seven among the numbers from there up to there, nothing for another.
-fn number_seven(numbers: &[u32; 16384], i: usize, from: usize, to: usize) -> usize
-    ensures { result ≤ 1 }
-{
-    if i < from {
-        return 0;
-    }
-    if to <= i {
-        return 0;
-    }
-    if 16384 <= i {
-        return 0;
-    }
-    if numbers[i] == 7 {
-        return 1;
-    }
-    0
-}
-
-// How many sevens are there.
-fn number_sevens(numbers: &[u32; 16384], from: usize, to: usize) -> usize {
-    let mut sevens = 0;
-    for i in 0..16384 {
-        sevens += number_seven(numbers, i, from, to);
-    }
-    sevens
+// How many sevens there are from there up to there.
+fn sevens<T: Copy + PartialEq + Drop, const N: usize>(
+    memory: &[T; N],
+    from: usize,
+    to: usize,
+    seven: T,
+) -> usize {
+    memory
+        .iter()
+        .take(to)
+        .skip(from)
+        .filter(|entry| **entry == seven)
+        .count()
 }
 
 // ---- a sheet that is written
 
-// What writing tells: a refusal's number, or 0 with the number of bytes.
-#[derive(Clone, Copy)]
-struct Wrote {
-    refused: u32,
-    bytes: usize,
-}
-
-fn wrote_of(written: Written) -> Wrote {
-    match written {
-        Written::Bytes(n) => Wrote {
-            refused: 0,
-            bytes: n,
-        },
-        Written::Refused(refusal) => Wrote {
-            refused: refusals::inner::number(refusal),
-            bytes: 0,
-        },
-    }
-}
-
 // Writing, to a part of the memory of the length that the call asks for.
-fn write_in(
-    head: &[u32; 17],
-    forbids: &[u32],
-    weights: &[u32],
-    offsets: &[u32],
-    ids: &[u8],
-    out: &mut [u8],
-) -> Wrote {
-    let room = within(head[12], out.len());
-    wrote_of(sheet::write(
-        wide(head[0]),
-        weights,
-        offsets,
-        ids,
-        wide(head[1]),
-        wide(head[2]),
-        wide(head[3]),
-        forbids,
-        &mut out[..room],
-    ))
+fn write_in(head: &Head, slices: &Slices, out: &mut Bytes) -> Result<usize, Refusal> {
+    sheet::write(
+        head.count,
+        slices.weights,
+        slices.offsets,
+        slices.ids,
+        head.width,
+        head.height,
+        head.mode,
+        slices.forbids,
+        lent(out, head.lent[0]),
+    )
 }
 
 // Writing, told with the bytes and with how many past them stayed.
-pub(crate) fn write_told<O: Print>(
-    out: &O,
-    head: &[u32; 17],
-    forbids: &[u32],
-    weights: &[u32],
-    offsets: &[u32],
-    ids: &[u8],
-) {
-    let mut room = bytes_to_lend();
-    let wrote = write_in(head, forbids, weights, offsets, ids, &mut room);
-    let bytes = wrote.bytes;
-    print::refused(out, wrote.refused);
-    if wrote.refused == 0 {
-        print::sheet(out, &room, bytes);
-    }
-    print::text(out, b"stayed");
-    print::number(out, byte_sevens(&room, bytes, wide(head[12])) as u64);
-    print::text(out, b"\n");
+pub(crate) fn write_told<O: Print>(out: &O, head: &Head, slices: &Slices) {
+    let mut bytes: Bytes = room(7);
+    let written = write_in(head, slices, &mut bytes);
+    print::refused(out, written.err());
+    let end = match written {
+        Ok(n) => {
+            print::sheet(out, front(&bytes, n));
+            n
+        }
+        Err(_) => 0,
+    };
+    print::line(out, "stayed", &[sevens(&bytes, end, head.lent[0], 7)]);
 }
 
 // ---- a sheet that is read
 
 // How much a sheet holds, or why that is not told.
-#[derive(Clone, Copy)]
-struct Held {
-    refused: u32,
-    measures: Measures,
-}
-
-fn nothing() -> Measures {
-    Measures {
-        count: 0,
-        ids: 0,
-        width: 0,
-        height: 0,
-        mode: 0,
-        forbids: 0,
+fn tell_held<O: Print>(out: &O, held: Result<Measures, Refusal>) {
+    print::refused(out, held.err());
+    if let Ok(m) = held {
+        print::line(
+            out,
+            "sizes",
+            &[m.count, m.ids, m.width, m.height, m.mode, m.forbids],
+        );
     }
 }
 
-fn held_of(answer: SizesAnswer) -> Held {
-    match answer {
-        SizesAnswer::Sheet(m) => Held {
-            refused: 0,
-            measures: m,
-        },
-        SizesAnswer::Refused(refusal) => Held {
-            refused: refusals::inner::number(refusal),
-            measures: nothing(),
-        },
-    }
+// Memory that a sheet is read into.
+#[derive(Drop)]
+struct Room {
+    weights: Numbers,
+    offsets: Numbers,
+    ids: Bytes,
+    forbids: Numbers,
 }
 
-fn tell_held<O: Print>(out: &O, held: Held) {
-    print::refused(out, held.refused);
-    if held.refused == 0 {
-        let m = held.measures;
-        print::sizes(out, m.count, m.ids, m.width, m.height, m.mode, m.forbids);
+impl Room {
+    fn sevens() -> Room {
+        Room {
+            weights: room(7),
+            offsets: room(7),
+            ids: room(7),
+            forbids: room(7),
+        }
     }
 }
 
 // Reading, into parts of the memory of the lengths that the call asks for.
-fn read_in(
-    head: &[u32; 17],
-    bytes: &[u8],
-    weights: &mut [u32],
-    offsets: &mut [u32],
-    ids: &mut [u8],
-    forbids: &mut [u32],
-) -> Held {
-    let w = within(head[12], weights.len());
-    let o = within(head[13], offsets.len());
-    let i = within(head[14], ids.len());
-    let f = within(head[15], forbids.len());
-    held_of(sheet::read(
+fn read_in(head: &Head, bytes: &[u8], memory: &mut Room) -> Result<Measures, Refusal> {
+    sheet::read(
         bytes,
-        &mut weights[..w],
-        &mut offsets[..o],
-        &mut ids[..i],
-        &mut forbids[..f],
-    ))
+        lent(&mut memory.weights, head.lent[0]),
+        lent(&mut memory.offsets, head.lent[1]),
+        lent(&mut memory.ids, head.lent[2]),
+        lent(&mut memory.forbids, head.lent[3]),
+    )
 }
 
-// Where the entries of a sheet end in each slice; nothing stands in them where it is refused.
+// Where the entries of a sheet end in each slice.
 #[derive(Clone, Copy)]
 struct Ends {
     weights: usize,
@@ -213,73 +111,58 @@ struct Ends {
     forbids: usize,
 }
 
-fn ends_of(held: Held) -> Ends {
-    if held.refused != 0 {
-        return Ends {
-            weights: 0,
-            offsets: 0,
-            ids: 0,
-            forbids: 0,
-        };
-    }
-    let m = held.measures;
-    Ends {
-        weights: m.count,
-        offsets: 4 * least(m.count, 64) + 1,
-        ids: m.ids,
-        forbids: 3 * least(m.forbids, 4096),
+impl Ends {
+    // Nothing stands in them where it is refused.
+    fn of(held: Result<Measures, Refusal>) -> Ends {
+        match held {
+            Err(_) => Ends {
+                weights: 0,
+                offsets: 0,
+                ids: 0,
+                forbids: 0,
+            },
+            Ok(m) => Ends {
+                weights: m.count,
+                offsets: 4 * m.count.min(64) + 1,
+                ids: m.ids,
+                forbids: 3 * m.forbids.min(4096),
+            },
+        }
     }
 }
 
-// The entries of a sheet that was read, and how many past each slice's last one stayed.
-fn tell_slices<O: Print>(
-    out: &O,
-    head: &[u32; 17],
-    held: Held,
-    weights: &[u32; 16384],
-    offsets: &[u32; 16384],
-    ids: &[u8; 131072],
-    forbids: &[u32; 16384],
-) {
-    let ends = ends_of(held);
-    if held.refused == 0 {
-        print::numbers(out, b"weights", weights, ends.weights);
-        print::numbers(out, b"offsets", offsets, ends.offsets);
-        print::ids(out, ids, ends.ids);
-        print::numbers(out, b"forbids", forbids, ends.forbids);
-    }
-    print::text(out, b"stayed");
-    print::number(
+// The entries of a sheet that was read.
+fn tell_entries<O: Print>(out: &O, ends: Ends, memory: &Room) {
+    print::line(out, "weights", front(&memory.weights, ends.weights));
+    print::line(out, "offsets", front(&memory.offsets, ends.offsets));
+    print::line(out, "ids", front(&memory.ids, ends.ids));
+    print::line(out, "forbids", front(&memory.forbids, ends.forbids));
+}
+
+// How many entries past each slice's last one stayed.
+fn tell_stayed<O: Print>(out: &O, head: &Head, ends: Ends, memory: &Room) {
+    let [weights, offsets, ids, forbids, _] = head.lent;
+    print::line(
         out,
-        number_sevens(weights, ends.weights, wide(head[12])) as u64,
+        "stayed",
+        &[
+            sevens(&memory.weights, ends.weights, weights, 7),
+            sevens(&memory.offsets, ends.offsets, offsets, 7),
+            sevens(&memory.ids, ends.ids, ids, 7),
+            sevens(&memory.forbids, ends.forbids, forbids, 7),
+        ],
     );
-    print::number(
-        out,
-        number_sevens(offsets, ends.offsets, wide(head[13])) as u64,
-    );
-    print::number(out, byte_sevens(ids, ends.ids, wide(head[14])) as u64);
-    print::number(
-        out,
-        number_sevens(forbids, ends.forbids, wide(head[15])) as u64,
-    );
-    print::text(out, b"\n");
 }
 
 // Reading, told with what `sizes` tells of the same bytes, the entries and how many past them stayed.
-pub(crate) fn read_told<O: Print>(out: &O, head: &[u32; 17], bytes: &[u8]) {
-    tell_held(out, held_of(sheet::sizes(bytes)));
-    let mut weights = numbers_to_lend();
-    let mut offsets = numbers_to_lend();
-    let mut ids = bytes_to_lend();
-    let mut forbids = numbers_to_lend();
-    let held = read_in(
-        head,
-        bytes,
-        &mut weights,
-        &mut offsets,
-        &mut ids,
-        &mut forbids,
-    );
+pub(crate) fn read_told<O: Print>(out: &O, head: &Head, bytes: &[u8]) {
+    tell_held(out, sheet::sizes(bytes));
+    let mut memory = Room::sevens();
+    let held = read_in(head, bytes, &mut memory);
+    let ends = Ends::of(held);
     tell_held(out, held);
-    tell_slices(out, head, held, &weights, &offsets, &ids, &forbids);
+    if held.is_ok() {
+        tell_entries(out, ends, &memory);
+    }
+    tell_stayed(out, head, ends, &memory);
 }

@@ -10,16 +10,13 @@ ghost use Rattle.std.specs.Prelude.{◌≤◌, ◌<◌};
 
 use std::rt::{Env, Files};
 use std::{fs, str};
+use transfer::{Buffer, LargeBuffer, front, room};
 
 // Whether an argument is this word.
 fn is_word<R: Env>(rt: &R, index: usize, word: &[u8]) -> bool {
-    let mut text = transfer::buffer();
+    let mut text: Buffer = room(0);
     let n = transfer::argument(rt, index, &mut text);
-    command::arguments::same(&text[..n], word)
-}
-
-fn is_then<R: Env>(rt: &R, index: usize) -> bool {
-    is_word(rt, index, b"then")
+    front(&text, n) == word
 }
 
 // Where the command that starts here ends: at the next `then`, or at the last argument.
@@ -27,12 +24,9 @@ fn end_of<R: Env>(rt: &R, from: usize, count: usize) -> usize
     requires { from < count }
     ensures { (from ≤ result) × (result ≤ count) }
 {
-    for i in from..count {
-        if is_then(rt, i) {
-            return i;
-        }
-    }
-    count
+    (from..count)
+        .find(|i| is_word(rt, *i, b"then"))
+        .unwrap_or(count)
 }
 
 // Writes bytes on standard output. What cannot be written is left out, and shows when the output is held to the file.
@@ -46,13 +40,13 @@ fn end_line<R: Print>(rt: &R) {
 
 // A word of a command, as it was typed.
 fn say_word<R: Env + Print>(rt: &R, index: usize) {
-    let mut text = transfer::buffer();
+    let mut text: Buffer = room(0);
     let n = transfer::argument(rt, index, &mut text);
     say_all(rt, b" ");
     if n == 0 {
         say_all(rt, b"''");
     }
-    say_all(rt, &text[..n]);
+    say_all(rt, front(&text, n));
 }
 
 // The command, as a person types it.
@@ -65,12 +59,10 @@ fn say<R: Env + Print>(rt: &R, from: usize, end: usize) {
 
 // The file that an argument names, opened to be read, or none.
 fn named<R: Env + Files>(rt: &R, index: usize) -> Option<R::File> {
-    let mut path = transfer::buffer();
+    let mut path: Buffer = room(0);
     let n = transfer::argument(rt, index, &mut path);
-    match str::from_utf8(&path[..n]) {
-        Ok(text) => fs::open(rt, text).ok(),
-        Err(_) => None,
-    }
+    let text = str::from_utf8(front(&path, n)).ok()?;
+    fs::open(rt, text).ok()
 }
 
 // Opens a file to be shown, or says that it is not there and answers none.
@@ -82,15 +74,10 @@ fn opened<R: Env + Files + Print>(rt: &R, index: usize) -> Option<R::File> {
     file
 }
 
-// A byte in two hexadecimal digits.
-fn say_byte<R: Print>(rt: &R, byte: u8) {
-    let _ = print!(rt; "{byte:02x}");
-}
-
 // Bytes in hexadecimal.
 fn say_bytes<R: Print>(rt: &R, bytes: &[u8]) {
     for byte in bytes {
-        say_byte(rt, *byte);
+        let _ = print!(rt; "{byte:02x}");
     }
     end_line(rt);
 }
@@ -99,55 +86,68 @@ fn show_bytes<R: Env + Files + Print>(rt: &R, index: usize) {
     let Some(mut file) = opened(rt, index) else {
         return;
     };
-    let mut bytes = transfer::buffer();
+    let mut bytes: Buffer = room(0);
     let n = transfer::read_full(&mut file, &mut bytes);
-    say_bytes(rt, &bytes[..n]);
+    say_bytes(rt, front(&bytes, n));
 }
 
 fn show_text<R: Env + Files + Print>(rt: &R, index: usize) {
     let Some(mut file) = opened(rt, index) else {
         return;
     };
-    let mut bytes = transfer::large_buffer();
+    let mut bytes: LargeBuffer = room(0);
     let n = transfer::read_full(&mut file, &mut bytes);
-    say_all(rt, &bytes[..n]);
+    say_all(rt, front(&bytes, n));
+}
+
+// What a command does: it shows the bytes of a file, or its text, or it is one of `ocean`.
+#[derive(Clone, Copy)]
+enum Command {
+    Bytes,
+    Text,
+    Ocean,
+}
+
+// The command that starts with this word.
+fn command_at<R: Env>(rt: &R, index: usize) -> Command {
+    if is_word(rt, index, b"bytes") {
+        Command::Bytes
+    } else if is_word(rt, index, b"text") {
+        Command::Text
+    } else {
+        Command::Ocean
+    }
 }
 
 // One command, from one argument up to another.
 fn rehearse<R: Env + Files + Print>(rt: &R, from: usize, end: usize)
-    requires { from ≤ end }
+    requires { from < end }
 {
-    if from == end {
-        return;
+    let command = command_at(rt, from);
+    say_all(rt, b"$");
+    if let Command::Ocean = command {
+        say_all(rt, b" ocean");
     }
-    if is_word(rt, from, b"bytes") {
-        say_all(rt, b"$");
-        say(rt, from, end);
-        show_bytes(rt, from + 1);
-        return;
-    }
-    if is_word(rt, from, b"text") {
-        say_all(rt, b"$");
-        say(rt, from, end);
-        show_text(rt, from + 1);
-        return;
-    }
-    say_all(rt, b"$ ocean");
     say(rt, from, end);
-    let plan = voyage::inner::arguments(rt, from, end);
-    voyage::inner::carry_out(rt, plan, rt);
+    match command {
+        Command::Bytes => show_bytes(rt, from + 1),
+        Command::Text => show_text(rt, from + 1),
+        Command::Ocean => {
+            let plan = voyage::inner::arguments(rt, from, end);
+            voyage::inner::carry_out(rt, plan, rt);
+        }
+    }
 }
 
-// All commands, from the first argument on. Each takes an argument or more, so there are no more turns than arguments.
+// All commands, from the first argument on. Each ends past where it starts, at a `then` or at the last argument.
 fn main(rt: HostRuntime) {
     let count = transfer::argument_count(&rt);
     let mut from = 1;
-    for _ in 1..count {
-        if from >= count {
-            return;
-        }
+    while from < count {
         let end = end_of(&rt, from, count);
-        rehearse(&rt, from, end);
+        if from < end {
+            rehearse(&rt, from, end);
+        }
         if end == count {
             return;
         }

@@ -14,13 +14,18 @@
 mod cases;
 mod input;
 
+// What is answered goes to standard output, and why no more is to standard error.
 // A proved loop has to end, and nothing says that a stream does: the turns are as many as no stream uses up.
 fn main(rt: HostRuntime) {
-    let told = rt.stderr();
     let mut input = rt.reader();
     for _ in 0..u64::MAX {
-        if !cases::next(&rt, &told, &mut input) {
-            return;
+        match cases::next(&rt, &mut input) {
+            Ok(true) => {}
+            Ok(false) => return,
+            Err(reason) => {
+                cases::say(&rt.stderr(), reason);
+                return;
+            }
         }
     }
 }

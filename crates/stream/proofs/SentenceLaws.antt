@@ -10,8 +10,8 @@ use Rattle.text.specs.Pages.{Page, page, put, line}
 use Rattle.text.proofs.PageLaws.{put-within, put-fits}
 use Rattle.stream.specs.Sentences.{reasons, reason_text}
 
-pub said_within : (t l l' : List ℕ) (r : ℕ) → page l' r ≡ put t (page l 0) → r ≤ length l
-said_within t l l' r e =
+pub said-within : (t l l' : List ℕ) (r : ℕ) → page l' r ≡ put t (page l 0) → r ≤ length l
+said-within t l l' r e =
     let start : 0 ≤ length l = omega arith in
     let within : (put t (page l 0)).at ≤ length l = put-within t (page l 0) start in
     let same : r ≡ (put t (page l 0)).at = ap (λ (p : Page). p.at) e in

@@ -3,8 +3,7 @@
 use mathlib.Core.Bool.{Bool, true, false}
 use mathlib.Core.List.{List, [], ◌∷◌, ◌++◌}
 use mathlib.Core.Path.{◌≡◌, refl, sym, ap, ◌∙◌}
-use Prim.Native.Nat.{ℕ, zero, suc, ◌+◌, ◌*◌, ◌/◌, ◌≤◌, ◌<◌, min}
-use native.Mathlib.Nat.{min-eq_left, min-eq_right}
+use Prim.Native.Nat.{ℕ, zero, suc, ◌+◌, ◌*◌, ◌/◌, ◌≤◌, ◌<◌}
 use native.Mathlib.Omega.{arith}
 use lib.Dec.{leb}
 use lib.ListN.{length, get_or, take, length-append}
@@ -63,13 +62,3 @@ pub unpacked : (sheet noise words first second : List ℕ) (n w : ℕ) → first
 unfolding comes_to words_of
 unpacked sheet noise words first second n w e f h k =
     rw (e, f, take_words noise (length noise / 4) n h, take_words words (length words / 4) w k)
-
--- a part of which no more is taken than there is
-pub take-least : (n k : ℕ) (l : List ℕ) → k ≡ min n (length l) → take k l ≡ take n l
-take-least n k l e = go (leb n (length l)) refl
-  where
-    go : (v : Bool) → leb n (length l) ≡ v → take k l ≡ take n l
-    go true t = ap (λ (x : ℕ). take x l) (e ∙ min-eq_left (leb-true n (length l) t))
-    go false f =
-        let less : length l ≤ n = omega (arith, leb-false n (length l) f) in
-        take_all k l (omega (arith, e ∙ min-eq_right less)) ∙ sym (take_all n l less)

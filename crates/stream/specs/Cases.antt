@@ -1,18 +1,17 @@
 -- A stream of cases: a number of it; and of a case, the bytes of a sheet, of noise words and of words, what it comes to, what is kept of it, and the bytes that it is answered.
 -- Follows docs/RULES.md, "Programs". Assumes nothing.
-use Rattle.std.specs.Prelude.{cond, List, ◌++◌, ◌≡◌, ℕ, ◌/◌, ltb, eqb, length, take}
+use Rattle.std.specs.Prelude.{Option, Some, None, Result, Ok, Err, cond, List, ◌++◌, ◌≡◌, ℕ, ◌/◌, ltb, eqb, length, take}
 use Rattle.records.specs.Numbers.{u16, u32_at}
 use Rattle.seed.specs.Strips.{words_in}
 use Rattle.course.specs.Run.{Ended}
 use Rattle.sheet.specs.Result.{result_of}
 use Rattle.bounded.specs.Laid.{Told, too_large, refused, answer, laid_of}
-use Rattle.stream.specs.declared.inner.Next.{Next}
-use Rattle.stream.specs.declared.inner.Next.TheVariants as next
+use Rattle.stream.specs.declared.inner.CutOff.{CutOff}
 
--- what a stream has next, where so many bytes of the four of a number are there
-unfoldable pub next_of : ℕ → List ℕ → Next
+-- what a stream has next, where so many bytes of the four of a number are there: none of them is its end, and fewer than four are no number
+unfoldable pub next_of : ℕ → List ℕ → Result (Option ℕ) CutOff
 unfolding u32_at
-next_of got b = cond (eqb got 0) next.End (cond (ltb got 4) next.Short (next.Number (u32_at b 0)))
+next_of got b = cond (eqb got 0) (Ok None) (cond (ltb got 4) (Err (record {})) (Ok (Some (u32_at b 0))))
 
 -- ---- what a case comes to
 

@@ -1,88 +1,57 @@
 // A case is answered in bytes. What it comes to, and when it is too large, is `bounded`'s to say.
-ghost use Rattle.std.specs.Prelude.{List, ◌++◌, ◌≡◌, ℕ, ◌≤◌, ◌<◌, min, length, take};
+ghost use Rattle.std.specs.Prelude.{List, ◌++◌, ◌≡◌, ℕ, ◌≤◌, length, take};
 ghost use Rattle.records.specs.Laying.{pen, laid};
 ghost use Rattle.records.specs.Numbers.{u16};
 ghost use Rattle.bounded.specs.Laid.{laid_of, Held, Front};
-ghost use Rattle.stream.specs.Cases.{next_of, parts, comes_to, answer_of, Rooms};
+ghost use Rattle.stream.specs.Cases.{next_of, parts, comes_to, answer_of};
 
 use bounded::inner::{Unfit, memory};
-use records::inner::{lay_bytes, lay_u16, u32_at};
+use records::inner::{lay_bytes, lay_u16};
+use sentences::Reason;
+use transfer::{front, room};
 
 pub mod sentences;
 
 // What is told of a sheet that is too large.
 const TOO_LARGE: usize = 65535;
 
-// The lesser of two: of what is sent, as much as there is room for. That it is no more than either follows, and is said for those who lend a part.
-pub fn least(a: usize, b: usize) -> usize
-    ensures { (result ≡ min a b) × (result ≤ a) × (result ≤ b) }
-{
-    if a < b {
-        return a;
-    }
-    b
-}
-
 // ---- a number of the stream
 
-// What a stream has next: a number, nothing since it ends here, or less than a number.
+// Less than a number is there.
 #[derive(Clone, Copy)]
-pub enum Next {
-    Number(u32),
-    End,
-    Short,
+pub struct CutOff;
+
+impl From<CutOff> for Reason {
+    fn from(_: CutOff) -> Reason {
+        Reason::CutOff
+    }
 }
 
-fn narrow(x: usize) -> u32
-    requires { x < 4294967296 }
-    ensures { result ≡ x }
-{
-    x as u32
-}
-
-// That, where so many bytes of four were there.
-pub fn next_of(got: usize, bytes: &[u8; 4]) -> Next
+// What a stream has next, where so many bytes of four were there: a number, or none since it ends here.
+pub fn next_of(got: usize, bytes: &[u8; 4]) -> Result<Option<u32>, CutOff>
     ensures { result ≡ next_of got bytes.now }
 {
     if got == 0 {
-        return Next::End;
+        return Ok(None);
     }
     if got < 4 {
-        return Next::Short;
+        return Err(CutOff);
     }
-    Next::Number(narrow(u32_at(bytes, 0)))
+    Ok(Some(u32::from_le_bytes(*bytes)))
 }
 
 // ---- room for what is kept of a case in bytes, but for its sheet, and for its answer
 
 // The bytes of as many noise words as are kept.
-pub fn noise_room() -> [u8; 4100]
-    ensures { 4100 ≡ length result }
-{
-    [0; 4100]
-}
+pub type Noise = [u8; 4100];
 
 // And of the words.
-pub fn words_room() -> [u8; 4096]
-    ensures { 4096 ≡ length result }
-{
-    [0; 4096]
-}
+pub type Words = [u8; 4096];
 
 // Two bytes more than the longest result has.
-pub fn answer_room() -> [u8; 8204]
-    ensures { 8204 ≡ length result }
-{
-    [0; 8204]
-}
+pub type Answer = [u8; 8204];
 
 // ---- the answer: each writes it at the front of `out` and tells how many bytes it has
-
-fn plain(x: u32) -> usize
-    ensures { result ≡ x }
-{
-    x as usize
-}
 
 // A run that is done: 0, and its record.
 fn tell_result(size: usize, res: &[u8], out: &mut [u8]) -> usize
@@ -110,7 +79,7 @@ fn tell(
 {
     match bounded::inner::lay(sheet, formed, noise, words, domains, res) {
         Ok(laid) => tell_result(laid.size, res, out),
-        Err(Unfit::Refused(refusal)) => lay_u16(plain(u32::from(refusal)), out, 0),
+        Err(Unfit::Refused(refusal)) => lay_u16(u32::from(refusal) as usize, out, 0),
         Err(Unfit::TooLarge) => lay_u16(TOO_LARGE, out, 0),
     }
 }
@@ -121,8 +90,8 @@ fn answer_numbers(sheet: &[u8], formed: bool, noise: &[u32], words: &[u32], out:
     ensures by_index { (b : List ℕ) → Held b sheet.now formed → pen out.new result ≡ laid (answer_of (laid_of b noise.now words.now)) (pen out.old 0) }
     ensures upper_bound { result ≤ 8204 }
 {
-    let mut domains = memory::domains_to_lend();
-    let mut result = memory::result_to_lend();
+    let mut domains: memory::Domains = room(0);
+    let mut result: memory::Record = room(0);
     tell(sheet, formed, noise, words, &mut domains, &mut result, out)
 }
 
@@ -153,8 +122,8 @@ fn answer_bytes(sheet: &[u8], formed: bool, noise: &[u8], words: &[u8], out: &mu
     ensures by_index { (b : List ℕ) → Held b sheet.now formed → pen out.new result ≡ laid (answer_of (comes_to (parts b noise.now words.now))) (pen out.old 0) }
     ensures upper_bound { result ≤ 8204 }
 {
-    let mut first = memory::noise_to_lend();
-    let mut second = memory::words_to_lend();
+    let mut first: memory::Noise = room(0);
+    let mut second: memory::Words = room(0);
     unpack(sheet, formed, noise, words, &mut first, &mut second, out)
 }
 
@@ -164,17 +133,15 @@ pub fn answer(
     sheet: &[u8],
     formed: bool,
     noises: usize,
-    noise: &[u8],
+    noise: &Noise,
     many: usize,
-    words: &[u8],
-    out: &mut [u8],
+    words: &Words,
+    out: &mut Answer,
 ) -> usize
-    requires { Rooms noise.now words.now × (8204 ≡ length out.old) × Front (take size sheet.now) formed }
+    requires { Front (take size sheet.now) formed }
     ensures by_index { (b : List ℕ) → Held b (take size sheet.now) formed → pen out.new result ≡ laid (answer_of (comes_to (parts b (take noises noise.now) (take many words.now)))) (pen out.old 0) }
     ensures upper_bound { result ≤ 8204 }
 {
-    let s = least(size, sheet.len());
-    let n = least(noises, noise.len());
-    let w = least(many, words.len());
-    answer_bytes(&sheet[..s], formed, &noise[..n], &words[..w], out)
+    let sheet = front(sheet, size);
+    answer_bytes(sheet, formed, front(noise, noises), front(words, many), out)
 }

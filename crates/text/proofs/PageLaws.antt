@@ -33,7 +33,6 @@ stays p = record { same = refl; is = sym (put_none (page_of p)) }
 
 -- two texts that were put in a row
 infixl 4 ◌⨾◌
-
 pub ◌⨾◌ : {s t : List ℕ} {p q r : lent.Page} → Puts s p q → Puts t q r → Puts (s ++ t) p r
 ◌⨾◌ {s} {t} {p} first next = record {
   same = next.same ∙ first.same;

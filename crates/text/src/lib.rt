@@ -3,9 +3,9 @@
 // and a text that fits stands there whole (`put-fits`).
 #![tactic(auto)]
 
-ghost use Rattle.std.specs.Prelude.{◌≡◌, ◌∷◌, [], ◌+◌, ◌-◌, ◌<◌, ◌≤◌, length, replicate};
-ghost use Rattle.text.specs.Pages.{page, put, line, page_of, Puts};
-ghost use Rattle.text.specs.Numbers.{digits, decimal, aligned, padded};
+ghost use Rattle.std.specs.Prelude.{◌≡◌, ◌∷◌, [], ◌+◌, ◌<◌, length, take, replicate};
+ghost use Rattle.text.specs.Pages.{page, line, page_of, Puts};
+ghost use Rattle.text.specs.Numbers.{decimal, aligned, padded};
 
 // A lent page, and the place where the next byte goes.
 #[derive(Drop)]
@@ -44,6 +44,13 @@ impl<'a> Page<'a> {
         ensures { result ≡ self.now.at }
     {
         self.at
+    }
+
+    // What stands before the next place.
+    pub fn written(&self) -> &[u8]
+        ensures { result.now ≡ take self.now.at self.now.out.now }
+    {
+        self.out.get(..self.at).unwrap_or(&self.out[..])
     }
 
     // One byte.

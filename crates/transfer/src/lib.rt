@@ -8,18 +8,23 @@ use std::env::FillError;
 use std::io::Read;
 use std::rt::Env;
 
-// 4,096 zeros, which hold the name of any file.
-pub fn buffer() -> [u8; 4096]
-    ensures { 4096 ≡ length result }
+// Room of one value. That it is so long is all that is said of it, so that no proof holds thousands of entries.
+pub fn room<T: Copy, const N: usize>(value: T) -> [T; N]
+    ensures { N ≡ length result }
 {
-    [0; 4096]
+    [value; N]
 }
 
-// 65,536 zeros.
-pub fn large_buffer() -> [u8; 65536]
-    ensures { 65536 ≡ length result }
+// Bytes to read into or to write text into, as many as hold the name of any file, or a page.
+pub type Buffer = [u8; 4096];
+
+pub type LargeBuffer = [u8; 65536];
+
+// The first n entries, or all of them where there are fewer.
+pub fn front<'a, T>(entries: &'a [T], n: usize) -> &'a [T]
+    ensures { result.now ≡ take n entries.now }
 {
-    [0; 65536]
+    entries.get(..n).unwrap_or(entries)
 }
 
 // One read: how many bytes it put at the start of the lent ones. A read that fails puts none there, as one at the end does.
@@ -27,10 +32,7 @@ pub fn read_once<R: Read>(reader: &mut R, room: &mut [u8]) -> usize
     ensures bound { result ≤ length room.new }
     ensures prefix { result ≡ length (take result room.new) }
 {
-    match reader.read(room) {
-        Ok(n) => n,
-        Err(_) => 0,
-    }
+    reader.read(room).unwrap_or(0)
 }
 
 // Reads until the lent bytes are full, the input ends or a read fails, and answers how many it put at their start. No room is no read.
@@ -58,27 +60,18 @@ pub fn argument<E: Env>(rt: &E, index: usize, text: &mut [u8]) -> usize
     ensures bound { result ≤ length text.new }
     ensures prefix { result ≡ length (take result text.new) }
 {
-    match rt.arg(index, text) {
-        Ok(n) => n,
-        Err(_) => 0,
-    }
+    rt.arg(index, text).unwrap_or(0)
 }
 
 // Whether there is an argument of this number, however long it is.
 fn is_argument<E: Env>(rt: &E, index: usize) -> bool {
     let mut text = [0u8; 1];
-    match rt.arg(index, &mut text) {
-        Err(FillError::NotPresent) => false,
-        _ => true,
-    }
+    !matches!(rt.arg(index, &mut text), Err(FillError::NotPresent))
 }
 
 // How many arguments there are, the program's own name among them.
 pub fn argument_count<E: Env>(rt: &E) -> usize {
-    for i in 0..usize::MAX {
-        if !is_argument(rt, i) {
-            return i;
-        }
-    }
-    usize::MAX
+    (0..usize::MAX)
+        .find(|i| !is_argument(rt, *i))
+        .unwrap_or(usize::MAX)
 }

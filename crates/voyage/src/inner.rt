@@ -5,7 +5,7 @@ ghost use Rattle.bounded.specs.Laid.{Front};
 ghost use Rattle.command.specs.Arguments as meaning;
 ghost use Rattle.command.specs.Arguments.{fault_of, Asked};
 
-use bounded::inner::{Ground, Taken, memory};
+use bounded::inner::{Ground, Unfit, memory};
 use command::arguments::{Number, Plan};
 use command::files::{Names, Words};
 use command::sentences::{CUT, TOO_LARGE};
@@ -147,9 +147,9 @@ fn laid<R: Env + Files + Print, T: Print>(
     requires { Front sheet.now formed }
 {
     match bounded::inner::measure(sheet, formed) {
-        Taken::Refused(number) => show::refused(told, sheet, number),
-        Taken::TooLarge => show::fault(told, TOO_LARGE),
-        Taken::Sheet(ground) => match seed {
+        Err(Unfit::Refused(refusal)) => show::refused(told, sheet, refusal),
+        Err(Unfit::TooLarge) => show::fault(told, TOO_LARGE),
+        Ok(ground) => match seed {
             Number::Is(n) => laid_from_seed(rt, names, told, n, sheet, formed, ground),
             Number::Not => laid_from_files(rt, names, told, sheet, formed, ground),
         },

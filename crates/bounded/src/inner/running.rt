@@ -6,7 +6,9 @@ ghost use Rattle.course.specs.Run.{given};
 ghost use Rattle.bounded.specs.Laid.{laid_told, outcome, ran_of, laid_of, laid_at, Runnable, Held, Front, Reads};
 
 use crate::inner::reading::read_in;
-use crate::inner::{Laid, Unfit, memory};
+use crate::inner::memory::{Counts, Floats, Marks, Pending};
+use crate::inner::{Laid, Unfit};
+use transfer::room;
 
 // The run of what nothing refuses but perhaps the noise, in work memory that suffices.
 fn run_in(
@@ -27,10 +29,10 @@ fn run_in(
     ensures { outcome (laid_told result) domains.new out.new
         ≡ laid_at (ran_of (given (table count offsets.now ids.now) weights.now (grid width height mode) noise.now) forbids.now words.now) domains.old out.old }
 {
-    let mut counts = memory::counts_to_lend();
-    let mut pending = memory::pending_to_lend();
-    let mut floats = memory::floats_to_lend();
-    let mut marks = memory::marks_to_lend();
+    let mut counts: Counts = room(0);
+    let mut pending: Pending = room(0);
+    let mut floats: Floats = room(0.0);
+    let mut marks: Marks = room(0);
     let cells = height * width;
     let places = cells * count;
     let stop = sheet::run_result(

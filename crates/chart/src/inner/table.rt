@@ -2,13 +2,14 @@
 ghost use Rattle.std.specs.Prelude.{◌≡◌, ◌/◌, ◌<◌, replicate};
 ghost use Rattle.text.specs.Pages.{Puts, texts};
 ghost use Rattle.chart.specs.Chart as meaning;
-ghost use Rattle.chart.specs.Chart.{cell_text, cells_text, row_text, row_of, row_count, rows_text, border_text, column_text, columns_text, seam_text, end_text, label_text, entry_text, some_text, open_text, empty_text, legend_text, grid_text, chart_of};
+ghost use Rattle.chart.specs.Chart.{cell_text, cells_text, row_text, row_of, row_count, rows_text, border_text, column_text, columns_text, seam_text, end_text, label_text, entry_text, some_text, count_text, legend_text, grid_text, chart_of};
 ghost use Rattle.chart.specs.Tallies.{tally, alike, holding};
 
 use crate::inner::signs::{border, glyph, joins_x, joins_y};
 use text::Page;
 
 // An ocean as it is shown: the grid's sides and mode, whether the patterns are named as the practice ocean's, how the run ended and how many words it used, and the domains.
+// `mode` and `end` stay numbers: `put_chart` and the picture's calls tell every number (docs/CONTRACTS.md, `chart_text`).
 #[derive(Clone, Copy)]
 pub struct Ocean<'a> {
     pub width: usize,
@@ -251,38 +252,35 @@ fn put_patterns(page: &mut Page, named: bool, domains: &[u64])
     }
 }
 
-// The cells that are told by number, where there are any.
-#[tactic(auto, using(text::proofs::PageLaws::in_a_row), unfolding(crate::specs::Chart::open_text))]
-fn put_open(page: &mut Page, cells: usize)
-    ensures { Puts (open_text cells) page.old page.new }
+// The cells of a sign that is no pattern's: how many, and what it says, where there are any.
+#[tactic(auto, using(text::proofs::PageLaws::in_a_row), unfolding(crate::specs::Chart::count_text))]
+fn put_count(page: &mut Page, sign: &[u8], cells: usize, meaning: &[u8])
+    ensures { Puts (count_text sign.now cells meaning.now) page.old page.new }
 {
     if cells != 0 {
-        page.put_text(b" 2+");
+        page.put_text(sign);
         page.put_padded(6, cells);
-        page.put_text(b"  undecided: the number says how many patterns remain\n");
-    }
-}
-
-// The cells without a pattern, where there are any.
-#[tactic(auto, using(text::proofs::PageLaws::in_a_row), unfolding(crate::specs::Chart::empty_text))]
-fn put_empty(page: &mut Page, cells: usize)
-    ensures { Puts (empty_text cells) page.old page.new }
-{
-    if cells != 0 {
-        page.put_text(b"  ?");
-        page.put_padded(6, cells);
-        page.put_text(b"  empty: no pattern remains\n");
+        page.put_text(meaning);
     }
 }
 
 // The legend.
-#[tactic(auto, using(text::proofs::PageLaws::in_a_row), unfolding(crate::specs::Chart::legend_text))]
 fn put_legend(page: &mut Page, named: bool, domains: &[u64])
     ensures { Puts (legend_text named domains.now) page.old page.new }
 {
     put_patterns(page, named, domains);
-    put_open(page, count_holding(domains, 2));
-    put_empty(page, count_alike(domains, 0));
+    put_count(
+        page,
+        b" 2+",
+        count_holding(domains, 2),
+        b"  undecided: the number says how many patterns remain\n",
+    );
+    put_count(
+        page,
+        b"  ?",
+        count_alike(domains, 0),
+        b"  empty: no pattern remains\n",
+    );
 }
 
 // The chart of an ocean: its grid with seams and edges, how its run ended, and a legend, with the practice ocean's names where `named`.

@@ -1,7 +1,6 @@
 // Files by the number of the argument that names them. Where one cannot be used the person is told why, in one sentence that names it.
 ghost use Rattle.std.specs.Prelude.{◌≡◌, ◌≤◌, length, take};
 
-use crate::inner::parts::bytes_of;
 use crate::inner::show;
 use command::files::Names;
 use command::sentences::{FOLDER, FORBIDDEN, MISSING, UNUSABLE, UNWRITTEN};
@@ -182,14 +181,14 @@ pub(crate) fn start<R: Env + Files, T: Print>(rt: &R, index: usize, told: &T) ->
     }
 }
 
-// Writes the first n bytes, and answers whether all of them were.
-pub(crate) fn write<W: Write>(to: &mut W, bytes: &[u8], n: usize) -> bool {
-    to.write_all(bytes_of(bytes, n)).is_ok()
+// Writes bytes, and answers whether all of them were.
+pub(crate) fn write<W: Write>(to: &mut W, bytes: &[u8]) -> bool {
+    to.write_all(bytes).is_ok()
 }
 
 // The same, to standard output or standard error.
-pub(crate) fn print<P: Print>(to: &P, bytes: &[u8], n: usize) -> bool {
-    to.write_all(bytes_of(bytes, n)).is_ok()
+pub(crate) fn print<P: Print>(to: &P, bytes: &[u8]) -> bool {
+    to.write_all(bytes).is_ok()
 }
 
 // Whether what was written to a file has arrived. Closing a file says nothing here, so the system is asked before; what cannot be asked, as a pipe, has.

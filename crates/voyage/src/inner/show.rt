@@ -2,159 +2,83 @@
 ghost use Rattle.bounded.specs.Laid.{Front};
 
 use crate::inner::files;
-use crate::inner::parts::domains_of;
-use bounded::inner::{Ground, Laid, memory};
+use crate::inner::parts::{bytes_of, domains_of};
+use bounded::inner::{Ground, Unfit, memory};
+use chart::{Ocean, put_chart};
 use command::files::Names;
-use command::sentences::{TOO_LARGE, UNWRITTEN};
+use command::sentences::{TOO_LARGE, UNWRITTEN, put_fault, put_file_fault, put_refusal};
+use picture::{put_picture_head, put_picture_row, put_picture_tail};
+use refusals::Refusal;
 use std::io::Write;
 use std::rt::{Env, Files};
+use text::Page;
+
+// What is put on a page, printed; whether all of it was.
+fn print<P: Print, F: FnOnce(&mut Page)>(to: &P, put: F) -> bool
+    requires { F.IsAlwaysCallable put }
+{
+    let mut memory = transfer::large_buffer();
+    let mut page = Page::new(&mut memory, 0);
+    put(&mut page);
+    files::print(to, page.written())
+}
+
+// The same, written to a file.
+fn write<W: Write, F: FnOnce(&mut Page)>(to: &mut W, put: F) -> bool
+    requires { F.IsAlwaysCallable put }
+{
+    let mut memory = transfer::large_buffer();
+    let mut page = Page::new(&mut memory, 0);
+    put(&mut page);
+    files::write(to, page.written())
+}
 
 // Why a sheet was refused, and where it is wrong.
-pub(crate) fn refused<T: Print>(told: &T, sheet: &[u8], number: u32) {
-    let mut page = transfer::buffer();
+pub(crate) fn refused<T: Print>(told: &T, sheet: &[u8], refusal: Refusal) {
+    let number = u32::from(refusal);
     let place = faults::inner::place_in(sheet, number);
-    let n = command::sentences::put_refusal(number as usize, place, 0, &mut page);
-    files::print(told, &page, n);
+    print(told, |page| put_refusal(page, number as usize, place));
 }
 
 // What is wrong with what is asked.
 pub(crate) fn fault<T: Print>(told: &T, number: usize) {
-    let mut page = transfer::buffer();
-    let n = command::sentences::put_fault(number, 0, &mut page);
-    files::print(told, &page, n);
+    print(told, |page| put_fault(page, number));
 }
 
 // What is wrong with the file of this name.
 pub(crate) fn file_fault<T: Print>(told: &T, name: &[u8], number: usize) {
-    let mut page = transfer::large_buffer();
-    let n = command::sentences::put_file_fault(name, number, 0, &mut page);
-    files::print(told, &page, n);
+    print(told, |page| put_file_fault(page, name, number));
 }
 
 // The chart, on standard output.
-fn chart<R: Print, T: Print>(
-    rt: &R,
-    told: &T,
-    named: bool,
-    ground: Ground,
-    end: usize,
-    words: usize,
-    domains: &[u64],
-) {
-    let mut page = transfer::large_buffer();
-    let n = chart::put_chart(
-        ground.width,
-        ground.mode,
-        named,
-        end,
-        words,
-        domains,
-        0,
-        &mut page,
-    );
-    if !files::print(rt, &page, n) {
+fn chart<R: Print, T: Print>(rt: &R, told: &T, ocean: &Ocean) {
+    if !print(rt, |page| put_chart(page, ocean)) {
         file_fault(told, b"standard output", UNWRITTEN);
     }
 }
 
-// The parts of the picture, from the top down. Each answers whether it was written.
-fn picture_head<W: Write>(file: &mut W, ground: Ground, end: usize, words: usize) -> bool {
-    let mut page = transfer::large_buffer();
-    let n = picture::put_picture_head(
-        ground.width,
-        ground.height,
-        ground.mode,
-        end,
-        words,
-        0,
-        &mut page,
-    );
-    files::write(file, &page, n)
-}
-
-fn picture_row<W: Write>(
-    file: &mut W,
-    width: usize,
-    named: bool,
-    domains: &[u64],
-    y: usize,
-) -> bool {
-    let mut page = transfer::large_buffer();
-    let n = picture::put_picture_row(width, named, domains, y, 0, &mut page);
-    files::write(file, &page, n)
-}
-
-fn picture_rows<W: Write>(file: &mut W, ground: Ground, named: bool, domains: &[u64]) -> bool {
-    let width = ground.width;
-    for y in 0..ground.height {
-        if !picture_row(file, width, named, domains, y) {
-            return false;
-        }
-    }
-    true
-}
-
-fn picture_tail<W: Write>(file: &mut W, ground: Ground, named: bool, domains: &[u64]) -> bool {
-    let mut page = transfer::large_buffer();
-    let n = picture::put_picture_tail(
-        ground.width,
-        ground.height,
-        ground.mode,
-        named,
-        domains,
-        0,
-        &mut page,
-    );
-    files::write(file, &page, n)
-}
-
-fn picture_parts<W: Write>(
-    file: &mut W,
-    named: bool,
-    ground: Ground,
-    end: usize,
-    words: usize,
-    domains: &[u64],
-) -> bool {
-    if !picture_head(file, ground, end, words) {
-        return false;
-    }
-    if !picture_rows(file, ground, named, domains) {
-        return false;
-    }
-    picture_tail(file, ground, named, domains)
+// The parts of the picture, from the top down, up to the first that was not written; whether all were.
+fn picture_parts<W: Write>(file: &mut W, ocean: &Ocean) -> bool {
+    write(file, |page| put_picture_head(page, ocean))
+        && (0..ocean.height).all(|y| write(file, |page| put_picture_row(page, ocean, y)))
+        && write(file, |page| put_picture_tail(page, ocean))
 }
 
 // The picture, in the file that an argument names; whether it was written to its end.
-fn picture<R: Env + Files, T: Print>(
-    rt: &R,
-    index: usize,
-    told: &T,
-    named: bool,
-    ground: Ground,
-    end: usize,
-    words: usize,
-    domains: &[u64],
-) -> bool {
+fn picture<R: Env + Files, T: Print>(rt: &R, index: usize, told: &T, ocean: &Ocean) -> bool {
     let Some(mut file) = files::start(rt, index, told) else {
         return false;
     };
-    let written = picture_parts(&mut file, named, ground, end, words, domains);
+    let written = picture_parts(&mut file, ocean);
     files::finish(rt, index, told, file, written)
 }
 
 // The result, in the file that an argument names; whether it was written to its end.
-fn result<R: Env + Files, T: Print>(
-    rt: &R,
-    index: usize,
-    told: &T,
-    bytes: &[u8],
-    n: usize,
-) -> bool {
+fn result<R: Env + Files, T: Print>(rt: &R, index: usize, told: &T, bytes: &[u8]) -> bool {
     let Some(mut file) = files::start(rt, index, told) else {
         return false;
     };
-    let written = files::write(&mut file, bytes, n);
+    let written = files::write(&mut file, bytes);
     files::finish(rt, index, told, file, written)
 }
 
@@ -163,25 +87,16 @@ fn laid<R: Env + Files + Print, T: Print>(
     rt: &R,
     names: Names,
     told: &T,
-    ground: Ground,
-    end: usize,
-    words: usize,
-    domains: &[u64],
+    ocean: &Ocean,
     bytes: &[u8],
-    length: usize,
 ) {
-    let named = names.sheet == 0;
-    if names.result != 0 {
-        if !result(rt, names.result, told, bytes, length) {
-            return;
-        }
+    if names.result != 0 && !result(rt, names.result, told, bytes) {
+        return;
     }
-    if names.picture != 0 {
-        if !picture(rt, names.picture, told, named, ground, end, words, domains) {
-            return;
-        }
+    if names.picture != 0 && !picture(rt, names.picture, told, ocean) {
+        return;
     }
-    chart(rt, told, named, ground, end, words, domains);
+    chart(rt, told, ocean);
 }
 
 // Lays the ocean and shows it, or says why not.
@@ -197,22 +112,22 @@ pub(crate) fn run<R: Env + Files + Print, T: Print>(
 )
     requires { Front sheet.now formed }
 {
-    let cells = ground.cells;
     let mut domains = memory::domains_to_lend();
     let mut bytes = memory::result_to_lend();
     match bounded::inner::lay(sheet, formed, noise, words, &mut domains, &mut bytes) {
-        Laid::Refused(number) => refused(told, sheet, number),
-        Laid::TooLarge => fault(told, TOO_LARGE),
-        Laid::Ended(end, used, length) => laid(
-            rt,
-            names,
-            told,
-            ground,
-            end as usize,
-            used,
-            domains_of(&domains, cells),
-            &bytes,
-            length,
-        ),
+        Err(Unfit::Refused(refusal)) => refused(told, sheet, refusal),
+        Err(Unfit::TooLarge) => fault(told, TOO_LARGE),
+        Ok(run) => {
+            let ocean = Ocean {
+                width: ground.width,
+                height: ground.height,
+                mode: ground.mode,
+                named: names.sheet == 0,
+                end: u32::from(run.end) as usize,
+                words: run.used,
+                domains: domains_of(&domains, ground.cells),
+            };
+            laid(rt, names, told, &ocean, bytes_of(&bytes, run.size));
+        }
     }
 }

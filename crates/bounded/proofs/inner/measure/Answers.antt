@@ -19,7 +19,7 @@ use Rattle.bounded.proofs.inner.measure.Goals.{After-read_in, In_ok-m}
 -- memory that was lent, before and after a sheet was read
 module _ (c : After-read_in) where
   abbrev fresh : Lent
-  fresh = lent c.weights_to_lend-weights.result c.offsets_to_lend-offsets.result c.ids_to_lend-ids.result c.forbids_to_lend-forbids.result
+  fresh = lent c.room-weights.result c.room-offsets.result c.room-ids.result c.room-forbids.result
 
   abbrev full : Lent
   full =

@@ -1,13 +1,11 @@
-use Rattle.std.proofs.Common.{arith, rules}
-use Rattle.replay.specs.Input.{Whole}
-use Rattle.replay.proofs.InputLaws.{whole-read}
+use Rattle.replay.proofs.InputLaws.{kept-long, whole-read, whole-cut}
 use Rattle.replay.proofs.input.sheet.Goals as goal
 
-pub returns-then-not-bytes : goal.returns-then-not-bytes
-unfolding Whole
-returns-then-not-bytes g c = tt
+pub returns-in_err-bytes : goal.returns-in_err-bytes
+returns-in_err-bytes g c = whole-cut _ _ _ c.from_residual.ensures.0
 
 -- the front that is kept is judged, and then the rest
 pub returns : goal.returns
 returns g c =
-    whole-read c.args.many c.least-kept.result _ (search rules) (omega (arith, c.requires, c.least-kept.ensures.0)) c.start.ensures c.past.ensures.1 c.past.ensures.0 c.judge.result c.judge.ensures
+    let long = kept-long c.bytes.new.out c.args.memory.now c.min-kept.result c.told-memory c.bytes.auto.out in
+    whole-read c.args.many c.min-kept.result _ long c.min-kept.ensures c.start.ensures c.past.ensures.1 c.past.ensures.0 c.judge.result c.judge.ensures

@@ -1,6 +1,7 @@
 -- `stream::inner::next_of` meets its contract: by how many bytes there were.
 -- Assumes nothing.
 use mathlib.Core.Path.{◌∙◌}
+use Rattle.records.proofs.NumberLaws.{u32-bytes}
 use Rattle.stream.proofs.NextLaws.{next_end, next_short, next_number}
 use Rattle.stream.proofs.inner.next_of.Goals as goal
 
@@ -13,4 +14,4 @@ returns-then-got-lt4 c = next_short c.args.got c.args.bytes.now c.if-got-eq0.fal
 pub returns : goal.returns
 returns c =
     let a = c.args in
-    next_number a.got a.bytes.now c.if-got-eq0.false c.if-got-lt4.false c.narrow.result (c.narrow.ensures ∙ c.u32_at.ensures.0)
+    next_number a.got a.bytes.now c.if-got-eq0.false c.if-got-lt4.false _ (c.from_le_bytes.ensures ∙ u32-bytes a.bytes.now 0)

@@ -22,7 +22,7 @@ lay_u16-requires c =
     let a = c.args in
     let (b, H) = c.requires.3 in
     let lay = c.lay in
-    (omega (arith, c.plain.ensures, c.from.ensures, room-refused b a.noise.now a.words.now lay.new.domains lay.new.out a.domains.now a.res.now lay.result (lay.ensures b H) c.in-Err-Refused.refusal (c.in-Err-Refused.is ∙ ap Err c.in-Err-Refused.field-0-is)), omega (arith, c.requires.2))
+    (omega (arith, c.from.ensures, room-refused b a.noise.now a.words.now lay.new.domains lay.new.out a.domains.now a.res.now lay.result (lay.ensures b H) c.in-Err-Refused.refusal (c.in-Err-Refused.is ∙ ap Err c.in-Err-Refused.field-0-is)), omega (arith, c.requires.2))
 
 pub returns-in-Ok : goal.returns-in-Ok
 returns-in-Ok c =
@@ -34,7 +34,7 @@ pub returns-in-Err-Refused : goal.returns-in-Err-Refused
 returns-in-Err-Refused c =
     let a = c.args in
     let lay = c.lay in
-    let wrote = c.lay_u16 in record { by_index = λ b H. wrote-number wrote.new.out a.out.now wrote.result c.plain.result wrote.ensures (answer-refused b a.noise.now a.words.now lay.new.domains lay.new.out a.domains.now a.res.now lay.result (lay.ensures b H) c.in-Err-Refused.refusal (c.in-Err-Refused.is ∙ ap Err c.in-Err-Refused.field-0-is)) (c.plain.ensures ∙ c.from.ensures); upper_bound = wrote-short wrote.new.out a.out.now wrote.result c.plain.result wrote.ensures }
+    let wrote = c.lay_u16 in record { by_index = λ b H. wrote-number wrote.new.out a.out.now wrote.result c.from.result wrote.ensures (answer-refused b a.noise.now a.words.now lay.new.domains lay.new.out a.domains.now a.res.now lay.result (lay.ensures b H) c.in-Err-Refused.refusal (c.in-Err-Refused.is ∙ ap Err c.in-Err-Refused.field-0-is)) c.from.ensures; upper_bound = wrote-short wrote.new.out a.out.now wrote.result c.from.result wrote.ensures }
 
 pub returns-in-Err-TooLarge : goal.returns-in-Err-TooLarge
 returns-in-Err-TooLarge c =

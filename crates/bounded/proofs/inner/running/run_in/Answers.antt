@@ -27,19 +27,19 @@ pub slice_bounds-run_result-end-2 : goal.slice_bounds-run_result-end-2
 slice_bounds-run_result-end-2 c = sym (length-take-le _ _ (omega (arith, runnable_few c.requires.0, c.requires.1)))
 
 pub slice_bounds-run_result-end-3 : goal.slice_bounds-run_result-end-3
-slice_bounds-run_result-end-3 c = sym (length-take-le _ _ (omega (arith, c.requires.0.small, c.counts_to_lend-counts.ensures)))
+slice_bounds-run_result-end-3 c = sym (length-take-le _ _ (omega (arith, c.requires.0.small, c.room-counts.ensures)))
 
 pub slice_bounds-run_result-end-4 : goal.slice_bounds-run_result-end-4
-slice_bounds-run_result-end-4 c = sym (length-take-le _ _ (omega (arith, c.requires.0.small, c.pending_to_lend-pending.ensures)))
+slice_bounds-run_result-end-4 c = sym (length-take-le _ _ (omega (arith, c.requires.0.small, c.room-pending.ensures)))
 
 pub overflow_mul-floats : goal.overflow_mul-floats
 overflow_mul-floats c = omega (arith, runnable_few c.requires.0)
 
 pub slice_bounds-floats-end : goal.slice_bounds-floats-end
-slice_bounds-floats-end c = omega (arith, runnable_few c.requires.0, c.floats_to_lend-floats.ensures)
+slice_bounds-floats-end c = omega (arith, runnable_few c.requires.0, c.room-floats.ensures)
 
 pub slice_bounds-run_result-end-5 : goal.slice_bounds-run_result-end-5
-slice_bounds-run_result-end-5 c = sym (length-take-le _ _ (omega (arith, runnable_few c.requires.0, c.floats_to_lend-floats.ensures)))
+slice_bounds-run_result-end-5 c = sym (length-take-le _ _ (omega (arith, runnable_few c.requires.0, c.room-floats.ensures)))
 
 pub overflow_mul-marks : goal.overflow_mul-marks
 overflow_mul-marks c = omega (arith, runnable_few c.requires.0)
@@ -51,10 +51,10 @@ pub overflow_add-marks-2 : goal.overflow_add-marks-2
 overflow_add-marks-2 c = omega (arith, runnable_few c.requires.0)
 
 pub slice_bounds-marks-end : goal.slice_bounds-marks-end
-slice_bounds-marks-end c = omega (arith, runnable_few c.requires.0, c.marks_to_lend-marks.ensures)
+slice_bounds-marks-end c = omega (arith, runnable_few c.requires.0, c.room-marks.ensures)
 
 pub slice_bounds-run_result-end-6 : goal.slice_bounds-run_result-end-6
-slice_bounds-run_result-end-6 c = sym (length-take-le _ _ (omega (arith, runnable_few c.requires.0, c.marks_to_lend-marks.ensures)))
+slice_bounds-run_result-end-6 c = sym (length-take-le _ _ (omega (arith, runnable_few c.requires.0, c.room-marks.ensures)))
 
 pub overflow_mul-result : goal.overflow_mul-result
 overflow_mul-result c = omega (arith, runnable_few c.requires.0)
@@ -68,10 +68,10 @@ returns c =
     let a = c.args in
     let pre = c.requires in
     let run = c.run_result in
-    let counts = c.counts_to_lend-counts in
-    let pending = c.pending_to_lend-pending in
-    let floats = c.floats_to_lend-floats in
-    let marks = c.marks_to_lend-marks in
+    let counts = c.room-counts in
+    let pending = c.room-pending in
+    let floats = c.room-floats in
+    let marks = c.room-marks in
     let n = a.height * a.width in
     let small = runnable_few pre.0 in
     let lent = memory (take n a.domains.now) (take (4 * (n * a.count)) counts.result) (take (n * a.count) pending.result) (take (2 * n) floats.result) (take (2 * n + blocks n) marks.result) in
@@ -84,10 +84,10 @@ returns-in_err-stop c =
     let a = c.args in
     let pre = c.requires in
     let run = c.run_result in
-    let counts = c.counts_to_lend-counts in
-    let pending = c.pending_to_lend-pending in
-    let floats = c.floats_to_lend-floats in
-    let marks = c.marks_to_lend-marks in
+    let counts = c.room-counts in
+    let pending = c.room-pending in
+    let floats = c.room-floats in
+    let marks = c.room-marks in
     let n = a.height * a.width in
     let small = runnable_few pre.0 in
     let lent = memory (take n a.domains.now) (take (4 * (n * a.count)) counts.result) (take (n * a.count) pending.result) (take (2 * n) floats.result) (take (2 * n + blocks n) marks.result) in

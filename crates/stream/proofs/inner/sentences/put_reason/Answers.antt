@@ -3,9 +3,9 @@
 use Rattle.std.proofs.Common.{ap, ◌∙◌}
 use Rattle.text.specs.Pages.{put}
 use Rattle.stream.specs.Sentences.{reason_text}
-use Rattle.stream.proofs.SentenceLaws.{said_within}
+use Rattle.stream.proofs.SentenceLaws.{said-within}
 use Rattle.stream.proofs.inner.sentences.put_reason.Goals as goal
 
 pub returns-clause-upper_bound : goal.returns-clause-upper_bound
 returns-clause-upper_bound c =
-    rw c.at.ensures (said_within _ _ _ _ (c.put_sentence.ensures.is ∙ ap (put (reason_text c.args.reason)) c.new-page.ensures.page))
+    rw c.at.ensures (said-within _ _ _ _ (c.put_sentence.ensures.is ∙ ap (put (reason_text c.args.reason)) c.new-page.ensures.page))

@@ -1,6 +1,6 @@
 use Rattle.std.proofs.Common.{◌≡◌, ◌-◌, ◌≤◌, length}
 use Rattle.replay.specs.Input.{Led}
-use Rattle.replay.proofs.input.judge_in.Given as goal
+use Rattle.replay.proofs.input.judge.Given as goal
 
 -- what was read so far leads to the state that is reached
 abbrev pub invariant-loop-left : goal.invariant-loop-left

@@ -1,0 +1,9 @@
+-- `chart::table::put_legend` meets its contract: its parts in a row.
+-- Assumes nothing.
+use Rattle.text.proofs.PageLaws.{◌⨾◌}
+use Rattle.chart.specs.Chart.{legend_text}
+use Rattle.chart.proofs.inner.table.put_legend.Goals as goal
+
+pub returns : goal.returns
+unfolding legend_text
+returns c = rw (← c.count_holding.ensures, ← c.count_alike.ensures) (c.put_patterns.ensures ⨾ c.put_count.ensures ⨾ c.put_count-2.ensures)
