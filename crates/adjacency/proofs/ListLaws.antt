@@ -3,55 +3,80 @@
 -- Assumes nothing.
 use mathlib.Core.Bool.{Bool, true, false, ◌&&◌}
 use mathlib.Core.List.{List, [], ◌∷◌}
-use mathlib.Core.Path.{◌≡◌, refl, ap}
-use Prim.Native.Nat.{ℕ, zero, suc, ◌+◌, ◌*◌, ◌/◌, ◌%◌, ◌≤◌, ◌<◌}
+use mathlib.Core.Path.{◌≡◌, refl, sym, ap}
+use Prim.Native.Nat.{ℕ, zero, suc, ◌+◌, ◌-◌, ◌*◌, ◌/◌, ◌%◌, ◌≤◌, ◌<◌}
 use native.Mathlib.Decide.{ℕ_discrete}
 use native.Mathlib.Nat.{le_refl, le_of_eq, le_of_suc-le-suc}
-use native.Mathlib.Numerals.{add-one}
+use native.Mathlib.Numerals.{add-one, sub-one}
 use native.Mathlib.Omega.{arith}
 use lib.Dec.{T, eqb, ltb, leb→le, ltb→lt, le→leb, lt→ltb}
 use lib.Ieee.Fits.{and_i, and_l, and_r}
-use lib.ListN.{length, get_or, drop, drop_of_length-le}
-use lib.Seq.{drop-cons}
-use borrow.Author.Tests.{eqb-true, eq-eqb, lt-ltb, le-ltb, not-false}
+use lib.ListN.{length, get_or}
+use borrow.Author.Tests.{ltb-true, ltb-false, eqb-true, eq-eqb, lt-ltb, le-ltb, lt-leb, not-false}
+use Rattle.std.specs.Bool.{MatchBool}
+use Rattle.std.specs.List.{IsAllAdjacentAnswer}
+use Rattle.std.specs.List.Sorted.{IsNonDecreasing}
 use Rattle.loops.specs.Tests.{all_to}
 use Rattle.adjacency.specs.Tables.{Table, list_at, list_of}
 use Rattle.adjacency.specs.Checks.{rises_at, rises_below, offsets_ok, list_ok, lists_ok, bad_list}
 use Rattle.adjacency.specs.Accepted.{AllBelow, AllAbove, Ascends, Laid, Listed}
-use Rattle.loops.proofs.TestLaws.{T_true, true-T, both, all-at, all_of}
+use Rattle.loops.proofs.TestLaws.{T_true, true-T, both, all-at, all_of, all-fails}
 
--- ---- a list that ascends below P, entry by entry after `last`
+-- ---- the check of a list by its entries
 
-module _ (P : ℕ) (l : List ℕ) {R : Bool} where
-  rises-here : (last : ℕ) {i : ℕ} → i < length l → rises_below P (last ∷ drop i l) ≡ R → (ltb last (get_or l i 0) && rises_below P (get_or l i 0 ∷ drop (i + 1) l)) ≡ R
+and-false : (a : Bool) → a && false ≡ false
+and-false true = refl
+and-false false = refl
+
+module _ (P : ℕ) where
+  rises-true : (x : ℕ) (l : List ℕ) → ((k : ℕ) → k < length l → get_or (x ∷ l) k 0 < get_or l k 0) → get_or (x ∷ l) (length l) 0 < P
+      → rises_below P (x ∷ l) ≡ true
   unfolding rises_below
-  rises-here last {i} h inv = rw add-one (rw (drop-cons l i 0 h) at inv)
+  rises-true x [] h last = lt-ltb x P last
+  rises-true x (y ∷ l) h last = rw (lt-ltb x y (h 0 (omega arith))) (rises-true y l (λ k j. h (suc k) (omega arith)) last)
 
-  -- a turn at i, which is above the last
-  pub rises-turn : {i last q : ℕ} → i < length l → q ≡ get_or l i 0 → last < q → rises_below P (last ∷ drop i l) ≡ R → rises_below P (q ∷ drop (i + 1) l) ≡ R
-  rises-turn {i} {last} {q} h e above inv =
-      let k : ltb last (get_or l i 0) ≡ true = rw e at (lt-ltb last q above) in
-      rw e (rw k at (rises-here last h inv))
-
-  -- a turn that is not ends the loop
-  pub rises-stop : {i last q : ℕ} → i < length l → q ≡ get_or l i 0 → q ≤ last → rises_below P (last ∷ drop i l) ≡ R → false ≡ R
-  rises-stop {i} {last} {q} h e above inv =
-      let k : ltb last (get_or l i 0) ≡ false = rw e at (le-ltb last q above) in
-      rw k at (rises-here last h inv)
-
-  pub rises-end : (last : ℕ) {i : ℕ} → length l ≤ i → rises_below P (last ∷ drop i l) ≡ R → ltb last P ≡ R
+  rises-falls : (x : ℕ) (l : List ℕ) (k : ℕ) → k < length l → get_or l k 0 ≤ get_or (x ∷ l) k 0 → rises_below P (x ∷ l) ≡ false
   unfolding rises_below
-  rises-end last h inv = rw (drop_of_length-le l h) at inv
+  rises-falls x [] k h e = absurd (omega arith)
+  rises-falls x (y ∷ l) zero h e = rw (le-ltb x y e)
+  rises-falls x (y ∷ l) (suc k) h e = rw (rises-falls y l k (omega arith) e) (and-false (ltb x y))
+
+  rises-past : (x : ℕ) (l : List ℕ) → P ≤ get_or (x ∷ l) (length l) 0 → rises_below P (x ∷ l) ≡ false
+  unfolding rises_below
+  rises-past x [] e = le-ltb x P e
+  rises-past x (y ∷ l) e = rw (rises-past y l e) (and-false (ltb x y))
+
+  pub list_ok-true : (l : List ℕ) → 0 < length l → ((k : ℕ) → k + 1 < length l → get_or l k 0 < get_or l (k + 1) 0) → get_or l (length l - 1) 0 < P → list_ok P l ≡ true
+  unfolding list_ok
+  list_ok-true [] some h last = absurd (omega arith)
+  list_ok-true (x ∷ l) some h last =
+      rises-true x l (λ k j. rw add-one at (h k (omega arith))) (rw sub-one at last)
+
+  pub list_ok-falls : (l : List ℕ) (k : ℕ) → k + 1 < length l → get_or l (k + 1) 0 ≤ get_or l k 0 → list_ok P l ≡ false
+  unfolding list_ok
+  list_ok-falls [] k h e = absurd (omega arith)
+  list_ok-falls (x ∷ l) k h e = rises-falls x l k (omega arith) (rw add-one at e)
+
+  pub list_ok-past : (l : List ℕ) → 0 < length l → P ≤ get_or l (length l - 1) 0 → list_ok P l ≡ false
+  unfolding list_ok
+  list_ok-past [] some e = absurd (omega arith)
+  list_ok-past (x ∷ l) some e = rises-past x l (rw sub-one at e)
+
+-- in a list with a last id below P, the order decides
+pub list_ok-sorted : (P : ℕ) (r : Bool) (l : List ℕ) → 0 < length l → get_or l (length l - 1) 0 < P → IsAllAdjacentAnswer (λ x y b. b ≡ ltb x y) l r → r ≡ list_ok P l
+list_ok-sorted P true l some last h = sym (list_ok-true P l some (λ k j. ltb-true _ _ (sym (h k 0 j))) last)
+list_ok-sorted P false l some last (k, inside, falls) = sym (list_ok-falls P l k inside (ltb-false _ _ (sym (falls 0))))
 
 pub list_ok_none : (P : ℕ) (l : List ℕ) → length l ≡ 0 → list_ok P l ≡ false
 unfolding list_ok
 list_ok_none P [] e = refl
 list_ok_none P (x ∷ l) e = absurd (omega arith)
 
-pub list_ok-some : (P : ℕ) (l : List ℕ) → (length l ≡ 0 → ⊥) → rises_below P (get_or l 0 0 ∷ drop 1 l) ≡ list_ok P l
-unfolding list_ok
-list_ok-some P [] n = absurd (n refl)
-list_ok-some P (x ∷ l) n = refl
+-- sorted offsets are those of which none falls
+pub sorted-rises : (r : Bool) (n : ℕ) (l : List ℕ) → length l ≡ n + 1
+    → MatchBool r (IsNonDecreasing l) ((k : ℕ) × (k + 1 < length l) × ((d : ℕ) → get_or l (k + 1) d < get_or l k d)) → r ≡ all_to n (rises_at l)
+sorted-rises true n l long h = sym (true-T _ (all_of (rises_at l) n (λ k j. le→leb _ _ (h k (k + 1) 0 (omega arith) (omega arith)))))
+sorted-rises false n l long (k, inside, falls) = sym (all-fails (rises_at l) k n (omega arith) (lt-leb _ _ (falls 0)))
 
 -- ---- what a list that passed is
 

@@ -9,30 +9,41 @@ ghost use Rattle.adjacency.specs.Tables.{table};
 ghost use Rattle.adjacency.specs.Checks.{table_refusal};
 ghost use Rattle.adjacency.specs.Lookup.{list_refusal, list_answer};
 
-use refusals::{Refusal, Verdict};
+use inner::Table;
+use refusals::Refusal;
 
 pub mod inner;
 
 // Whether a table with its weights is accepted, or the first refusal.
-pub fn check_table(count: usize, weights: &[u32], offsets: &[u32], ids: &[u8]) -> Verdict
+pub fn check_table(
+    count: usize,
+    weights: &[u32],
+    offsets: &[u32],
+    ids: &[u8],
+) -> Result<(), Refusal>
     ensures { number_of result ≡ table_refusal (table count offsets.now ids.now) weights.now }
 {
+    let table = Table {
+        count,
+        offsets,
+        ids,
+    };
     if inner::bad_count(count) {
-        return Verdict::Refused(Refusal::BadCount);
+        return Err(Refusal::BadCount);
     }
-    if weights.len() != count || inner::bad_offsets(count, offsets) {
-        return Verdict::Refused(Refusal::BadLength);
+    if weights.len() != count || table.bad_offsets() {
+        return Err(Refusal::BadLength);
     }
     if inner::over_weight(weights) {
-        return Verdict::Refused(Refusal::BadWeights);
+        return Err(Refusal::BadWeights);
     }
-    if inner::bad_list(count, offsets, ids) {
-        return Verdict::Refused(Refusal::BadList);
+    if table.bad_list() {
+        return Err(Refusal::BadList);
     }
-    if inner::disagrees(count, offsets, ids) {
-        return Verdict::Refused(Refusal::Disagree);
+    if table.disagrees() {
+        return Err(Refusal::Disagree);
     }
-    Verdict::Accepted
+    Ok(())
 }
 
 // The list of a pattern and a direction: that part of the ids, or an empty part where the call is refused.
@@ -46,8 +57,15 @@ pub fn list<'a>(
     ensures { result.now ≡ list_answer (table count offsets.now ids.now) pattern direction }
 {
     match list_refusal(count, offsets, ids, pattern, direction) {
-        Verdict::Accepted => inner::list_of(count, offsets, ids, pattern, direction),
-        Verdict::Refused(_) => &ids[0..0],
+        Ok(()) => {
+            let table = Table {
+                count,
+                offsets,
+                ids,
+            };
+            table.list_of(pattern, direction)
+        }
+        Err(_) => &ids[0..0],
     }
 }
 
@@ -58,26 +76,31 @@ pub fn list_refusal(
     ids: &[u8],
     pattern: usize,
     direction: usize,
-) -> Verdict
+) -> Result<(), Refusal>
     ensures { number_of result ≡ list_refusal (table count offsets.now ids.now) pattern direction }
 {
+    let table = Table {
+        count,
+        offsets,
+        ids,
+    };
     if inner::bad_count(count) {
-        return Verdict::Refused(Refusal::BadCount);
+        return Err(Refusal::BadCount);
     }
-    if inner::bad_offsets(count, offsets) {
-        return Verdict::Refused(Refusal::BadLength);
+    if table.bad_offsets() {
+        return Err(Refusal::BadLength);
     }
-    if inner::bad_list(count, offsets, ids) {
-        return Verdict::Refused(Refusal::BadList);
+    if table.bad_list() {
+        return Err(Refusal::BadList);
     }
-    if inner::disagrees(count, offsets, ids) {
-        return Verdict::Refused(Refusal::Disagree);
+    if table.disagrees() {
+        return Err(Refusal::Disagree);
     }
     if 3 < direction {
-        return Verdict::Refused(Refusal::BadDirection);
+        return Err(Refusal::BadDirection);
     }
     if count <= pattern {
-        return Verdict::Refused(Refusal::BadPattern);
+        return Err(Refusal::BadPattern);
     }
-    Verdict::Accepted
+    Ok(())
 }

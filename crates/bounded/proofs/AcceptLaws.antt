@@ -19,17 +19,21 @@ use Rattle.layout.specs.Reading.{sheet_in}
 use Rattle.layout.specs.Lending.{Lent}
 use Rattle.sheet.specs.Called.{form_test, sheet_tests, read_misfit, read_tests, measured}
 use Rattle.sheet.specs.Result.{result_of, result_outcome, result_at, result_called}
-use Rattle.bounded.specs.declared.inner.Taken.{Taken}
+use Rattle.std.specs.Prelude.{Result, Ok, Err}
+use Rattle.refusals.specs.declared.Refusal.{Refusal}
+use Rattle.collapse.specs.Endings.{end_number}
+use Rattle.collapse.proofs.EndingLaws.{end_number-injective}
+use Rattle.bounded.specs.declared.inner.Ground.{Ground}
+use Rattle.bounded.specs.declared.inner.Unfit.{Unfit}
 use Rattle.bounded.specs.declared.inner.Laid.{Laid}
 use Rattle.bounded.specs.Laid.{answer, sheet_refusal, taken_of, taken_told, measure_of, ran_of, laid_of, finish, laid_told, Outcome, outcome, laid_at}
-use Rattle.refusals.proofs.RefusalLaws.{first_none, passed_first, first-passed}
+use Rattle.refusals.proofs.RefusalLaws.{number-injective, first_none, passed_first, first-passed}
 use Rattle.sheet.proofs.CalledLaws.{sheet-content}
 use Rattle.sheet.proofs.RoundLaws.{sheet-passed}
 use Rattle.bounded.proofs.TakenLaws.{taken-sheet, lay-sheet}
 use Rattle.bounded.proofs.RunLaws.{result-ran}
 use Rattle.bounded.proofs.KeptLaws.{within, taken_runnable}
-use Rattle.bounded.specs.declared.inner.Taken.TheVariants as taken
-use Rattle.bounded.specs.declared.inner.Laid.TheVariants as laid
+use Rattle.bounded.specs.declared.inner.Unfit.TheVariants as unfit
 
 -- ---- what the library takes
 
@@ -70,36 +74,37 @@ module _ (b noise words : List ℕ) (s : Sheet) (took : taken_of b ≡ answer s)
 
 -- ---- no second outcome fits
 
-taken_told-injective : (a b : Taken) → taken_told a ≡ taken_told b → a ≡ b
+taken_told-injective : (a b : Result Ground Unfit) → taken_told a ≡ taken_told b → a ≡ b
 unfolding taken_told
-taken_told-injective (taken.Sheet g) (taken.Sheet h) e = ap taken.Sheet (cc)
-taken_told-injective (taken.Sheet g) (taken.Refused n) e = cc
-taken_told-injective (taken.Sheet g) taken.TooLarge e = cc
-taken_told-injective (taken.Refused n) (taken.Sheet g) e = cc
-taken_told-injective (taken.Refused n) (taken.Refused k) e = ap taken.Refused (cc)
-taken_told-injective (taken.Refused n) taken.TooLarge e = cc
-taken_told-injective taken.TooLarge (taken.Sheet g) e = cc
-taken_told-injective taken.TooLarge (taken.Refused n) e = cc
-taken_told-injective taken.TooLarge taken.TooLarge e = refl
+taken_told-injective (Ok g) (Ok h) e = ap Ok (cc)
+taken_told-injective (Ok g) (Err (unfit.Refused r)) e = cc
+taken_told-injective (Ok g) (Err unfit.TooLarge) e = cc
+taken_told-injective (Err (unfit.Refused r)) (Ok h) e = cc
+taken_told-injective (Err (unfit.Refused r)) (Err (unfit.Refused s)) e = ap (λ (x : Refusal). Err (unfit.Refused x)) (number-injective r s (cc))
+taken_told-injective (Err (unfit.Refused r)) (Err unfit.TooLarge) e = cc
+taken_told-injective (Err unfit.TooLarge) (Ok h) e = cc
+taken_told-injective (Err unfit.TooLarge) (Err (unfit.Refused s)) e = cc
+taken_told-injective (Err unfit.TooLarge) (Err unfit.TooLarge) e = refl
 
-pub measure-unique : (b : List ℕ) (x y : Taken) → taken_told x ≡ measure_of b → taken_told y ≡ measure_of b → x ≡ y
+pub measure-unique : (b : List ℕ) (x y : Result Ground Unfit) → taken_told x ≡ measure_of b → taken_told y ≡ measure_of b → x ≡ y
 measure-unique b x y e f = taken_told-injective x y (e ∙ sym f)
 
-laid_told-injective : (a b : Laid) → laid_told a ≡ laid_told b → a ≡ b
+laid_told-injective : (a b : Result Laid Unfit) → laid_told a ≡ laid_told b → a ≡ b
 unfolding laid_told within
-laid_told-injective (laid.Ended end used size) (laid.Ended end' used' size') e =
-    let p = ap (within (finish end used size)) e in
-    λ j. laid.Ended (p j).end (p j).used (p j).size
-laid_told-injective (laid.Ended end used size) (laid.Refused k) e = cc
-laid_told-injective (laid.Ended end used size) laid.TooLarge e = cc
-laid_told-injective (laid.Refused n) (laid.Ended end used size) e = cc
-laid_told-injective (laid.Refused n) (laid.Refused k) e = ap laid.Refused (cc)
-laid_told-injective (laid.Refused n) laid.TooLarge e = cc
-laid_told-injective laid.TooLarge (laid.Ended end used size) e = cc
-laid_told-injective laid.TooLarge (laid.Refused k) e = cc
-laid_told-injective laid.TooLarge laid.TooLarge e = refl
+laid_told-injective (Ok k) (Ok l) e =
+    let p = ap (within (finish (end_number k.end) k.used k.size)) e in
+    let same : k.end ≡ l.end = end_number-injective k.end l.end (λ j. (p j).end) in
+    λ j. Ok (record { end = same j; used = (p j).used; size = (p j).size })
+laid_told-injective (Ok k) (Err (unfit.Refused s)) e = cc
+laid_told-injective (Ok k) (Err unfit.TooLarge) e = cc
+laid_told-injective (Err (unfit.Refused r)) (Ok l) e = cc
+laid_told-injective (Err (unfit.Refused r)) (Err (unfit.Refused s)) e = ap (λ (x : Refusal). Err (unfit.Refused x)) (number-injective r s (cc))
+laid_told-injective (Err (unfit.Refused r)) (Err unfit.TooLarge) e = cc
+laid_told-injective (Err unfit.TooLarge) (Ok l) e = cc
+laid_told-injective (Err unfit.TooLarge) (Err (unfit.Refused s)) e = cc
+laid_told-injective (Err unfit.TooLarge) (Err unfit.TooLarge) e = refl
 
-pub lay-unique : (b noise words domains out : List ℕ) (x y : Laid) (d₁ d₂ o₁ o₂ : List ℕ) → outcome (laid_told x) d₁ o₁ ≡ laid_at (laid_of b noise words) domains out
+pub lay-unique : (b noise words domains out : List ℕ) (x y : Result Laid Unfit) (d₁ d₂ o₁ o₂ : List ℕ) → outcome (laid_told x) d₁ o₁ ≡ laid_at (laid_of b noise words) domains out
     → outcome (laid_told y) d₂ o₂ ≡ laid_at (laid_of b noise words) domains out → (x ≡ y) × (d₁ ≡ d₂) × (o₁ ≡ o₂)
 lay-unique b noise words domains out x y d₁ d₂ o₁ o₂ p q =
     let e = p ∙ sym q in

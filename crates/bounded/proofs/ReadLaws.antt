@@ -17,7 +17,7 @@ use Rattle.layout.specs.Tables.{table_of}
 use Rattle.layout.specs.Reading.{from_lists, well_formed, sheet_in}
 use Rattle.layout.specs.Lending.{Lent, lent, filled}
 use Rattle.sheet.specs.declared.Measures.{Measures}
-use Rattle.sheet.specs.declared.SizesAnswer.{SizesAnswer}
+use Rattle.std.specs.Prelude.{Result, Ok, Err}
 use Rattle.sheet.specs.Called.{scalar_tests, content_tests, sheet_tests, form_test, measured, sizes_told, sizes_asked, read_misfit, read_tests, ReadOutcome, read_outcome, read_at, read_called}
 use Rattle.bounded.specs.Laid.{sheet_refusal, Held, Reads}
 use Rattle.records.proofs.LayingLaws.{over-whole}
@@ -28,7 +28,6 @@ use Rattle.sheet.proofs.MeasureLaws.{Known, known, Parts, read-parts}
 use Rattle.sheet.proofs.CalledLaws.{sizes-refused, sizes-told, read_misfit-is}
 use Rattle.sheet.proofs.RoundLaws.{sheet-passed}
 use Rattle.bounded.proofs.HeldLaws.{refusal-form, refusal_next, refusal-many, held_whole, held-long}
-use Rattle.sheet.specs.declared.SizesAnswer.TheVariants as sizes
 
 -- ---- what an answer says of the sheet
 
@@ -42,23 +41,23 @@ within d (answer x) = x
 within d (refused n) = d
 
 module _ (b : List ℕ) where
-  pub sizes_none : (l : Lent) {a : SizesAnswer} (r : Refusal) → a ≡ sizes.Refused r → sizes_told a ≡ sizes_asked b → read_outcome (sizes_told (sizes.Refused r)) l ≡ read_at (sheet_refusal b) (sheet_in b) l
+  pub sizes_none : (l : Lent) {a : Result Measures Refusal} (r : Refusal) → a ≡ Err r → sizes_told a ≡ sizes_asked b → read_outcome (sizes_told (Err r)) l ≡ read_at (sheet_refusal b) (sheet_in b) l
   unfolding sizes_told refusal_in read_at number
   sizes_none l r is f = go (well_formed b) refl
     where
-      e : sizes_told (sizes.Refused r) ≡ sizes_asked b
+      e : sizes_told (Err r) ≡ sizes_asked b
       e = ap sizes_told (sym is) ∙ f
 
-      go : (v : Bool) → well_formed b ≡ v → read_outcome (sizes_told (sizes.Refused r)) l ≡ read_at (sheet_refusal b) (sheet_in b) l
+      go : (v : Bool) → well_formed b ≡ v → read_outcome (sizes_told (Err r)) l ≡ read_at (sheet_refusal b) (sheet_in b) l
       go true w = absurd (number-positive r (ap refusal_in (e ∙ sym (sizes-told b w refl))))
       go false w =
           ap (λ (a : Asked Measures). read_outcome a l) (e ∙ sym (sizes-refused b w)) ∙ ap (λ (n : ℕ). read_at n (sheet_in b) l) (sym (refusal-form b w))
 
-  pub sizes-some : {a : SizesAnswer} (m : Measures) → a ≡ sizes.Sheet m → sizes_told a ≡ sizes_asked b → (well_formed b ≡ true) × (m ≡ measured (sheet_in b))
+  pub sizes-some : {a : Result Measures Refusal} (m : Measures) → a ≡ Ok m → sizes_told a ≡ sizes_asked b → (well_formed b ≡ true) × (m ≡ measured (sheet_in b))
   unfolding sizes_told refusal_in within number
   sizes-some m is f = go (well_formed b) refl
     where
-      e : sizes_told (sizes.Sheet m) ≡ sizes_asked b
+      e : sizes_told (Ok m) ≡ sizes_asked b
       e = ap sizes_told (sym is) ∙ f
 
       go : (v : Bool) → well_formed b ≡ v → (well_formed b ≡ true) × (m ≡ measured (sheet_in b))
@@ -68,20 +67,20 @@ module _ (b : List ℕ) where
   -- ---- what is told of what was read
 
   -- a refusal is the sheet's own
-  pub read_number : (l l' : Lent) {a : SizesAnswer} (r : Refusal) → a ≡ sizes.Refused r → read_outcome (sizes_told a) l' ≡ read_at (sheet_refusal b) (sheet_in b) l
+  pub read_number : (l l' : Lent) {a : Result Measures Refusal} (r : Refusal) → a ≡ Err r → read_outcome (sizes_told a) l' ≡ read_at (sheet_refusal b) (sheet_in b) l
       → sheet_refusal b ≡ number r
   unfolding sizes_told refusal_in read_at
-  read_number l l' r is e = go (sheet_refusal b) refl (ap (λ (a : SizesAnswer). read_outcome (sizes_told a) l') (sym is) ∙ e)
+  read_number l l' r is e = go (sheet_refusal b) refl (ap (λ (a : Result Measures Refusal). read_outcome (sizes_told a) l') (sym is) ∙ e)
     where
       go : (n : ℕ) → sheet_refusal b ≡ n → read_outcome (refused (number r)) l' ≡ read_at n (sheet_in b) l → sheet_refusal b ≡ number r
       go zero q e = absurd (number-positive r (ap (λ (o : ReadOutcome). refusal_in o.told) e))
       go (suc n) q e = q ∙ sym (ap (λ (o : ReadOutcome). refusal_in o.told) e)
 
   -- an answer says that nothing is refused, how much the sheet holds, and what was read
-  pub read_answer : (l l' : Lent) {a : SizesAnswer} (m : Measures) → a ≡ sizes.Sheet m → read_outcome (sizes_told a) l' ≡ read_at (sheet_refusal b) (sheet_in b) l
+  pub read_answer : (l l' : Lent) {a : Result Measures Refusal} (m : Measures) → a ≡ Ok m → read_outcome (sizes_told a) l' ≡ read_at (sheet_refusal b) (sheet_in b) l
       → (sheet_refusal b ≡ 0) × (m ≡ measured (sheet_in b)) × (l' ≡ filled (sheet_in b) l)
   unfolding sizes_told refusal_in within read_at
-  read_answer l l' m is e = go (sheet_refusal b) refl (ap (λ (a : SizesAnswer). read_outcome (sizes_told a) l') (sym is) ∙ e)
+  read_answer l l' m is e = go (sheet_refusal b) refl (ap (λ (a : Result Measures Refusal). read_outcome (sizes_told a) l') (sym is) ∙ e)
     where
       go : (n : ℕ) → sheet_refusal b ≡ n → read_outcome (answer m) l' ≡ read_at n (sheet_in b) l
           → (sheet_refusal b ≡ 0) × (m ≡ measured (sheet_in b)) × (l' ≡ filled (sheet_in b) l)
@@ -92,12 +91,12 @@ module _ (b : List ℕ) where
 
 module _ {b kept : List ℕ} {judged : Bool} (H : Held b kept judged) (l : Lent) where
   -- more bytes than are read are refused by what is known of the whole
-  pub read-long : 90272 < length kept → {r : Refusal} → r ≡ cond judged BadCount BadSheet → read_outcome (sizes_told (sizes.Refused r)) l ≡ read_at (sheet_refusal b) (sheet_in b) l
+  pub read-long : 90272 < length kept → {r : Refusal} → r ≡ cond judged BadCount BadSheet → read_outcome (sizes_told (Err r)) l ≡ read_at (sheet_refusal b) (sheet_in b) l
   unfolding sizes_told read_at number
   read-long h e =
-      ap (λ (r : Refusal). read_outcome (sizes_told (sizes.Refused r)) l) e ∙ go judged ∙ ap (λ (n : ℕ). read_at n (sheet_in b) l) (sym (held-long H h))
+      ap (λ (r : Refusal). read_outcome (sizes_told (Err r)) l) e ∙ go judged ∙ ap (λ (n : ℕ). read_at n (sheet_in b) l) (sym (held-long H h))
     where
-      go : (v : Bool) → read_outcome (sizes_told (sizes.Refused (cond v BadCount BadSheet))) l ≡ read_at (cond v 3 10) (sheet_in b) l
+      go : (v : Bool) → read_outcome (sizes_told (Err (cond v BadCount BadSheet))) l ≡ read_at (cond v 3 10) (sheet_in b) l
       go true = refl
       go false = refl
 
@@ -124,7 +123,7 @@ module _ (b : List ℕ) (m : Measures) (w : well_formed b ≡ true) (e : m ≡ m
   held = known b (formed b w) m e
 
   -- over 64 patterns is 3
-  pub read-many : (l : Lent) → 64 < m.count → read_outcome (sizes_told (sizes.Refused BadCount)) l ≡ read_at (sheet_refusal b) (sheet_in b) l
+  pub read-many : (l : Lent) → 64 < m.count → read_outcome (sizes_told (Err BadCount)) l ≡ read_at (sheet_refusal b) (sheet_in b) l
   unfolding sizes_told number read_at
   read-many l h = ap (λ (n : ℕ). read_at n (sheet_in b) l) (sym (refusal-many b w (omega (arith, held.count_same))))
 

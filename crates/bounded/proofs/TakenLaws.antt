@@ -9,25 +9,24 @@ use lib.Dec.{ltb}
 use lib.ListN.{length, take}
 use borrow.Author.Tests.{lt-ltb, le-ltb, eq-eqb}
 use Rattle.refusals.specs.declared.Refusal.{Refusal}
-use Rattle.refusals.specs.Refusals.{number, first_of, Asked}
+use Rattle.refusals.specs.Refusals.{number, first_of}
 use Rattle.adjacency.specs.Tables.{table}
 use Rattle.grid.specs.Grid.{grid, Sized}
 use Rattle.course.specs.Run.{given}
 use Rattle.forbids.specs.Forbids.{records_in}
-use Rattle.course.specs.Called.{End}
 use Rattle.layout.specs.Sheet.{Sheet}
 use Rattle.layout.specs.Tables.{table_of}
 use Rattle.layout.specs.Reading.{sheet_in}
+use Rattle.std.specs.Prelude.{Ok, Err}
 use Rattle.sheet.specs.declared.Measures.{Measures}
 use Rattle.sheet.specs.Called.{measured}
-use Rattle.bounded.specs.Laid.{too_large, refused, answer, onward, sheet_refusal, large, taken_at, taken_of, ground_of, measure_of, ran_of, laid_of, taken_told, laid_told, run_told, outcome, laid_at, Runnable}
+use Rattle.bounded.specs.Laid.{too_large, refused, answer, onward, sheet_refusal, large, taken_at, taken_of, ground_of, measure_of, ran_of, laid_of, taken_told, laid_told, outcome, laid_at, Runnable}
 use Rattle.refusals.proofs.RefusalLaws.{number-positive}
 use Rattle.adjacency.proofs.AcceptedLaws.{counted}
 use Rattle.sheet.proofs.MeasureLaws.{scalars-is, judged-is}
 use Rattle.sheet.proofs.StorableLaws.{scalars-good}
 use Rattle.bounded.proofs.ReadLaws.{Stored}
-use Rattle.bounded.specs.declared.inner.Taken.TheVariants as taken
-use Rattle.bounded.specs.declared.inner.Laid.TheVariants as laid
+use Rattle.bounded.specs.declared.inner.Unfit.TheVariants as unfit
 
 -- ---- the sheet
 
@@ -57,29 +56,29 @@ module _ (b : List ℕ) where
 -- ---- each end of `measure`
 
 module _ (b : List ℕ) where
-  pub measure-large : taken_of b ≡ too_large → taken_told taken.TooLarge ≡ measure_of b
+  pub measure-large : taken_of b ≡ too_large → taken_told (Err unfit.TooLarge) ≡ measure_of b
   unfolding taken_told measure_of onward
   measure-large e = sym (rw e)
 
-  pub measure-refused_by : {n k : ℕ} → k ≡ n → taken_of b ≡ refused n → taken_told (taken.Refused k) ≡ measure_of b
+  pub measure-refused_by : (r : Refusal) → taken_of b ≡ refused (number r) → taken_told (Err (unfit.Refused r)) ≡ measure_of b
   unfolding taken_told measure_of onward
-  measure-refused_by f e = ap refused f ∙ sym (rw e)
+  measure-refused_by r e = sym (rw e)
 
   pub measure-sheet : (m : Measures) → taken_of b ≡ answer (sheet_in b) → m ≡ measured (sheet_in b)
-      → taken_told (taken.Sheet (record { width = m.width; height = m.height; mode = m.mode; cells = m.height * m.width })) ≡ measure_of b
+      → taken_told (Ok (record { width = m.width; height = m.height; mode = m.mode; cells = m.height * m.width })) ≡ measure_of b
   unfolding taken_told measure_of onward ground_of measured
   measure-sheet m e f = ap (λ (x : Measures). answer (ground_of (grid x.width x.height x.mode))) f ∙ sym (rw e)
 
 -- ---- each end of `lay`
 
 module _ (b noise words domains out : List ℕ) where
-  pub lay-large : taken_of b ≡ too_large → outcome (laid_told laid.TooLarge) domains out ≡ laid_at (laid_of b noise words) domains out
+  pub lay-large : taken_of b ≡ too_large → outcome (laid_told (Err unfit.TooLarge)) domains out ≡ laid_at (laid_of b noise words) domains out
   unfolding laid_told laid_of onward laid_at
   lay-large e = sym (rw e)
 
-  pub lay-refused_by : {n k : ℕ} → k ≡ n → taken_of b ≡ refused n → outcome (laid_told (laid.Refused k)) domains out ≡ laid_at (laid_of b noise words) domains out
+  pub lay-refused_by : (r : Refusal) → taken_of b ≡ refused (number r) → outcome (laid_told (Err (unfit.Refused r))) domains out ≡ laid_at (laid_of b noise words) domains out
   unfolding laid_told laid_of onward laid_at
-  lay-refused_by f e = ap (λ (x : ℕ). outcome (refused x) domains out) f ∙ sym (rw e)
+  lay-refused_by r e = sym (rw e)
 
   pub lay-sheet : (s : Sheet) → taken_of b ≡ answer s → ran_of (given (table_of s) s.weights s.grid noise) s.forbids words ≡ laid_of b noise words
   unfolding laid_of onward
@@ -121,13 +120,3 @@ module _ (b : List ℕ) (m : Measures) (e : m ≡ measured (sheet_in b)) {weight
   read-sides =
       let (count, sized) = scalars-good m.count (grid m.width m.height m.mode) (ap first_of (scalars-is (sheet_in b) m e) ∙ S.scalars) in
       ((counted m.count count).1, sized)
-
--- ---- what an answer tells
-
-pub told-end : {x : Asked End} {end used : ℕ} → x ≡ Asked.answer (record { end = end; used = used }) → (n : ℕ) → laid_told (laid.Ended end used (10 + 8 * n)) ≡ run_told x n
-unfolding laid_told run_told
-told-end e n = sym (ap (λ (x : Asked End). run_told x n) e)
-
-pub told-refused : {x : Asked End} {k j : ℕ} → x ≡ Asked.refused k → j ≡ k → (n : ℕ) → laid_told (laid.Refused j) ≡ run_told x n
-unfolding laid_told run_told
-told-refused e f n = ap refused f ∙ sym (ap (λ (x : Asked End). run_told x n) e)

@@ -1,8 +1,9 @@
 -- What a case, a sheet's bytes with noise and words, comes to in a program: refused, too large, or the end of its run.
 -- Follows docs/RULES.md, "Programs". Assumes nothing.
-use Rattle.std.specs.Prelude.{Bool, false, cond, List, ◌∷◌, ◌≡◌, ℕ, zero, suc, ◌+◌, ◌*◌, ◌≤◌, ◌<◌, ltb, eqb, length, get_or, take}
+use Rattle.std.specs.Prelude.{Bool, false, cond, List, ◌∷◌, ◌≡◌, ℕ, zero, suc, ◌+◌, ◌*◌, ◌≤◌, ◌<◌, ltb, eqb, length, get_or, take, Result, Ok, Err}
 use Rattle.records.specs.Laying.{over}
-use Rattle.refusals.specs.Refusals.{first_of, Asked}
+use Rattle.refusals.specs.Refusals.{number, first_of, Asked}
+use Rattle.collapse.specs.Endings.{end_number}
 use Rattle.adjacency.specs.Tables.{Table}
 use Rattle.grid.specs.Grid.{Grid, cells}
 use Rattle.course.specs.Run.{Given, given, Ended, run_of}
@@ -14,10 +15,9 @@ use Rattle.layout.specs.Reading.{well_formed, sheet_in}
 use Rattle.sheet.specs.Called.{form_test, sheet_tests, scalar_tests, content_tests}
 use Rattle.sheet.specs.Result.{result_of}
 use Rattle.bounded.specs.declared.inner.Ground.{Ground}
-use Rattle.bounded.specs.declared.inner.Taken.{Taken}
+use Rattle.bounded.specs.declared.inner.Unfit.{Unfit}
 use Rattle.bounded.specs.declared.inner.Laid.{Laid}
-use Rattle.bounded.specs.declared.inner.Taken.TheVariants as taken
-use Rattle.bounded.specs.declared.inner.Laid.TheVariants as laid
+use Rattle.bounded.specs.declared.inner.Unfit.TheVariants as unfit
 
 -- what a program tells: that a sheet is larger than the program takes, the number of a refusal, or an answer
 pub data Told (A : Type 0) : Type 0 where
@@ -60,10 +60,11 @@ unfoldable pub ground_of : Grid → Ground
 ground_of g = record { width = g.width; height = g.height; mode = g.mode; cells = cells g }
 
 -- what an answer of `measure` tells
-unfoldable pub taken_told : Taken → Told Ground
-taken_told (taken.Sheet g) = answer g
-taken_told (taken.Refused n) = refused n
-taken_told taken.TooLarge = too_large
+unfoldable pub taken_told : Result Ground Unfit → Told Ground
+unfolding number
+taken_told (Ok g) = answer g
+taken_told (Err (unfit.Refused r)) = refused (number r)
+taken_told (Err unfit.TooLarge) = too_large
 
 -- what a call of `measure` comes to
 unfoldable pub measure_of : List ℕ → Told Ground
@@ -92,10 +93,11 @@ abbrev pub finish : ℕ → ℕ → ℕ → Finish
 finish end used size = record { end = end; used = used; size = size }
 
 -- what an answer of `lay` tells
-unfoldable pub laid_told : Laid → Told Finish
-laid_told (laid.Ended end used size) = answer (finish end used size)
-laid_told (laid.Refused n) = refused n
-laid_told laid.TooLarge = too_large
+unfoldable pub laid_told : Result Laid Unfit → Told Finish
+unfolding number
+laid_told (Ok l) = answer (finish (end_number l.end) l.used l.size)
+laid_told (Err (unfit.Refused r)) = refused (number r)
+laid_told (Err unfit.TooLarge) = too_large
 
 -- what a run's answer on n cells tells
 unfoldable pub run_told : Asked End → ℕ → Told Finish

@@ -15,8 +15,8 @@ use Rattle.words.specs.Words.{how_many}
 use Rattle.order.specs.Order.{beats}
 use Rattle.notes.specs.Notes.{note_of}
 use Rattle.notes.specs.declared.inner.Note.{Note}
-use Rattle.choice.specs.declared.inner.Observed.TheVariants.{Cell, Nothing}
-use Rattle.choice.specs.Observer.{Notes, notes_in, Lengths, valid, note_at, counts_at, better_than, Best, At, Empty, join, candidate, best_at, observed_as}
+use Rattle.std.specs.Prelude.{Some, None}
+use Rattle.choice.specs.Observer.{Notes, notes_in, Lengths, valid, note_at, counts_at, better_than, Best, At, Empty, join, candidate, best_at, observed_as, sight}
 use Rattle.choice.proofs.ObserverLaws.{join-empty, note_at-note_of}
 
 -- ---- what it stands for
@@ -30,15 +30,15 @@ module _ (cells : ℕ) (v : Notes) where
   unfolding best_at
   best-cell {b} n = ap (λ t. cond t Empty (At b (note_at v b))) (ne_eqb b cells n)
 
-  pub told_none : {b : ℕ} → b ≡ cells → Nothing ≡ observed_as (best_at cells v b)
+  pub told_none : {b : ℕ} → b ≡ cells → None ≡ observed_as (best_at cells v b)
   told_none e = sym (ap observed_as (ap (best_at cells v) e ∙ best_none))
 
 -- by the note of that cell as it is kept
 module _ (cells b : ℕ) (noise domains : List ℕ) (floats : List Float) (marks : List ℕ) (weighted : ℕ) where
   pub told-cell : {n : Note} → (b ≡ cells → ⊥) → n ≡ note_of noise cells b floats marks
-      → Cell b n.entropy ≡ observed_as (best_at cells (notes_in cells noise domains floats marks weighted) b)
+      → Some (sight b n.entropy) ≡ observed_as (best_at cells (notes_in cells noise domains floats marks weighted) b)
   told-cell h is =
-      ap (λ (m : Note). Cell b m.entropy) is ∙ ap (Cell b) (sym (get_or-drop cells floats b nan))
+      ap (λ (m : Note). Some (sight b m.entropy)) is ∙ ap (λ (f : Float). Some (sight b f)) (sym (get_or-drop cells floats b nan))
       ∙ sym (ap observed_as (best-cell cells (notes_in cells noise domains floats marks weighted) h))
 
 -- ---- a further cell

@@ -5,8 +5,8 @@ use mathlib.Core.Path.{◌≡◌, refl}
 use Prim.Native.Nat.{ℕ}
 use lib.Ieee.{Float, binary32, of_bits, lt, eq}
 use lib.ListN.{set, replicate}
-use Rattle.choice.specs.declared.inner.Observed.TheVariants.{Cell}
-use Rattle.choice.specs.Observer.{Notes, notes, observe}
+use Rattle.std.specs.Prelude.{Some}
+use Rattle.choice.specs.Observer.{Notes, notes, observe, sight}
 use Rattle.choice.specs.Cache.{codes}
 
 abbrev one : Float
@@ -27,6 +27,6 @@ unfolding codes noted lt eq of_bits
 last-cells = refl
 
 -- two cells at the same place of their blocks: the marks are equal, and the earlier block's cell is observed
-same_place : (codes (noted (set (set (replicate 40 0) 5 2) 37 2)) 0 2 ≡ 7 ∷ 7 ∷ []) × (observe (noted (set (set (replicate 40 0) 5 2) 37 2)) ≡ Cell 5 one)
+same_place : (codes (noted (set (set (replicate 40 0) 5 2) 37 2)) 0 2 ≡ 7 ∷ 7 ∷ []) × (observe (noted (set (set (replicate 40 0) 5 2) 37 2)) ≡ Some (sight 5 one))
 unfolding codes noted observe lt eq of_bits
 same_place = (refl, refl)

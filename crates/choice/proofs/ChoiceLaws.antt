@@ -3,7 +3,7 @@
 -- Assumes nothing.
 use mathlib.Core.Bool.{Bool, true, false, cond}
 use mathlib.Core.List.{List}
-use mathlib.Core.Option.{Option, none, some}
+use Rattle.std.specs.Prelude.{Option, None, Some}
 use mathlib.Core.Path.{◌≡◌, refl, sym, ap, ◌∙◌, subst}
 use Prim.Native.Nat.{ℕ, zero, suc, ◌+◌, ◌-◌, ◌*◌, ◌^◌, ◌≤◌, ◌<◌, suc-le-suc}
 use native.Mathlib.Decide.{ℕ_discrete}
@@ -45,8 +45,8 @@ pub record Falls (ws : List ℕ) (w r p : ℕ) : Type 0 where
 module _ (ws : List ℕ) (w r : ℕ) where
   -- what is taken of the patterns below `end`: the one in whose share r falls, and none where they weigh no more than r
   abbrev Told : ℕ → Option ℕ → Type 0
-  Told end none = weight_below ws w end ≤ r
-  Told end (some p) = Falls ws w r p
+  Told end None = weight_below ws w end ≤ r
+  Told end (Some p) = Falls ws w r p
 
   told-from : (n p : ℕ) → weight_below ws w p ≤ r → Told (p + n) (taken_from ws w n p (r - weight_below ws w p))
   unfolding taken_from sum_to
@@ -55,7 +55,7 @@ module _ (ws : List ℕ) (w r : ℕ) where
     where
       go : (t : Bool) → ltb (r - weight_below ws w p) (weight_in ws w p) ≡ t
           → (weight_below ws w (suc p) ≤ r → Told (suc p + n) (taken_from ws w n (suc p) (r - weight_below ws w (suc p))))
-          → Told (p + suc n) (cond t (some p) (taken_from ws w n (suc p) (r - weight_below ws w p - weight_in ws w p)))
+          → Told (p + suc n) (cond t (Some p) (taken_from ws w n (suc p) (r - weight_below ws w p - weight_in ws w p)))
       go true t rest = record { from = h; past = omega (arith, ltb-true) }
       go false t rest =
           let e : p + suc n ≡ suc p + n = omega arith in
@@ -66,17 +66,17 @@ module _ (ws : List ℕ) (w r : ℕ) where
   told = rw (zero-add, sub-zero) at (told-from (length ws) 0 (omega arith))
 
   -- a number below the sum takes a pattern
-  pub taken-some : r < weight_sum ws w → (p : ℕ) × (taken ws w r ≡ some p)
+  pub taken-some : r < weight_sum ws w → (p : ℕ) × (taken ws w r ≡ Some p)
   unfolding weight_sum
   taken-some l = go (taken ws w r) refl told
     where
-      go : (o : Option ℕ) → taken ws w r ≡ o → Told (length ws) o → (p : ℕ) × (taken ws w r ≡ some p)
-      go none e h = absurd (omega arith)
-      go (some p) e h = (p, e)
+      go : (o : Option ℕ) → taken ws w r ≡ o → Told (length ws) o → (p : ℕ) × (taken ws w r ≡ Some p)
+      go None e h = absurd (omega arith)
+      go (Some p) e h = (p, e)
 
   module _ (p : ℕ) where
     -- the pattern that is taken is the one in whose share the number falls
-    pub taken-falls : taken ws w r ≡ some p → Falls ws w r p
+    pub taken-falls : taken ws w r ≡ Some p → Falls ws w r p
     taken-falls e = subst (Told (length ws)) e told
 
     -- that pattern is in the word and has weight
@@ -88,20 +88,20 @@ module _ (ws : List ℕ) (w r : ℕ) where
           | no n ↦ absurd (omega (arith, weight_in-unset ws w p (bit_not w p n)))
         ]
 
-    pub taken_in : taken ws w r ≡ some p → (bit w p ≡ 1) × (0 < weight_of ws p)
+    pub taken_in : taken ws w r ≡ Some p → (bit w p ≡ 1) × (0 < weight_of ws p)
     taken_in e = falls_in (taken-falls e)
 
   -- no number falls in two shares
   falls-once : (p q : ℕ) → Falls ws w r p → Falls ws w r q → q ≤ p
   falls-once p q f g = le_of_suc-le-suc (lt_of_not-le (λ h. omega (arith, sum-up_to (suc p) q (weight_in ws w) h)))
 
-  pub falls-taken : (p : ℕ) → Falls ws w r p → taken ws w r ≡ some p
+  pub falls-taken : (p : ℕ) → Falls ws w r p → taken ws w r ≡ Some p
   unfolding weight_sum
   falls-taken p f =
       let l = weight-inside ws p (falls_in p f).1 in
       let (q, e) = taken-some (omega (arith, sum-up_to (suc p) (length ws) (weight_in ws w) l)) in
       let g = taken-falls q e in
-      e ∙ ap some (le_antisymm (falls-once p q f g) (falls-once q p g f))
+      e ∙ ap Some (le_antisymm (falls-once p q f g) (falls-once q p g f))
 
 -- ---- the walk from one pattern of the word to the next
 
@@ -111,7 +111,7 @@ module _ (ws : List ℕ) (w r p : ℕ) (at : bit w p ≡ 1) (first : (q : ℕ) �
   none_below = sum-zero p (weight_in ws w) (λ q l. weight_in-unset ws w q (first q l))
 
   -- its weight is greater: it is taken
-  pub taken_here : r < weight_of ws p → taken ws w r ≡ some p
+  pub taken_here : r < weight_of ws p → taken ws w r ≡ Some p
   unfolding sum_to
   taken_here l = falls-taken ws w r p (record { from = omega (arith, none_below); past = omega (arith, none_below, weight_in-set ws w p at) })
 
@@ -161,5 +161,5 @@ module _ {ws : List ℕ} {word number left r p : ℕ} (few : length ws ≤ 64) (
         same = sym (taken-on ws left r p walked_at.1 none_before s.low h) ∙ s.same;
       })
 
-  pub walked_end : r < weight_of ws p → some p ≡ taken ws word number
+  pub walked_end : r < weight_of ws p → Some p ≡ taken ws word number
   walked_end h = sym (taken_here ws left r p walked_at.1 none_before h) ∙ s.same

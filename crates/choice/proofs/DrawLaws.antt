@@ -2,7 +2,8 @@
 -- Follows docs/RULES.md, "Run". Assumes nothing.
 use mathlib.Core.Bool.{Bool, true, false, cond}
 use mathlib.Core.List.{List, ◌++◌}
-use mathlib.Core.Option.{none, some, some-injective, none-ne-some}
+use Rattle.std.specs.Prelude.{None, Some}
+use Rattle.std.proofs.lemmas.Option.{same_Some, none-some}
 use mathlib.Core.Path.{◌≡◌, refl, sym, ap, subst}
 use Prim.Native.Nat.{ℕ, suc, ◌+◌, ◌%◌, ◌≤◌, ◌<◌}
 use native.Mathlib.Nat.{mod-lt}
@@ -18,22 +19,22 @@ module _ (words : List ℕ) (used sum : ℕ) where
   next = record { number = get_or words used 0 % sum; used = used + 1 }
 
   -- nothing is drawn only where no word is left
-  pub draw_none : draw words used sum ≡ none → length words ≤ used
+  pub draw_none : draw words used sum ≡ None → length words ≤ used
   unfolding draw
   draw_none = go (ltb used (length words)) refl
     where
-      go : (b : Bool) → ltb used (length words) ≡ b → cond b (some next) none ≡ none → length words ≤ used
-      go true l e = absurd (none-ne-some next (sym e))
+      go : (b : Bool) → ltb used (length words) ≡ b → cond b (Some next) None ≡ None → length words ≤ used
+      go true l e = absurd (none-some next (sym e))
       go false l e = ltb-false used (length words) l
 
-  module _ (d : Draw) (e : draw words used sum ≡ some d) where
+  module _ (d : Draw) (e : draw words used sum ≡ Some d) where
     drawn : (used < length words) × (next ≡ d)
     unfolding draw
     drawn = go (ltb used (length words)) refl e
       where
-        go : (b : Bool) → ltb used (length words) ≡ b → cond b (some next) none ≡ some d → (used < length words) × (next ≡ d)
-        go true l e = (ltb-true used (length words) l, some-injective next d e)
-        go false l e = absurd (none-ne-some d e)
+        go : (b : Bool) → ltb used (length words) ≡ b → cond b (Some next) None ≡ Some d → (used < length words) × (next ≡ d)
+        go true l e = (ltb-true used (length words) l, same_Some next d e)
+        go false l e = absurd (none-some d e)
 
     -- there is a word
     pub draw-left : used < length words
@@ -48,8 +49,8 @@ module _ (words : List ℕ) (used sum : ℕ) where
     draw-below h = subst (λ (x : Draw). x.number < sum) drawn.1 (mod-lt (get_or words used 0) h)
 
     -- the words that follow do not matter
-    pub draw-longer : (more : List ℕ) → draw (words ++ more) used sum ≡ some d
+    pub draw-longer : (more : List ℕ) → draw (words ++ more) used sum ≡ Some d
     unfolding draw
     draw-longer more =
         let l : used < length (words ++ more) = omega (arith, length-append words more, draw-left) in
-        rw (lt-ltb used (length (words ++ more)) l, get_or-append words more 0 used draw-left) (ap some drawn.1)
+        rw (lt-ltb used (length (words ++ more)) l, get_or-append words more 0 used draw-left) (ap Some drawn.1)

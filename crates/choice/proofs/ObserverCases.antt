@@ -4,9 +4,8 @@ use mathlib.Core.List.{List, [], ◌∷◌}
 use mathlib.Core.Path.{◌≡◌, refl}
 use Prim.Native.Nat.{ℕ}
 use lib.Ieee.{Float, binary32, of_bits, lt, eq}
-use Rattle.choice.specs.declared.inner.Observed.{Observed}
-use Rattle.choice.specs.declared.inner.Observed.TheVariants.{Cell, Nothing}
-use Rattle.choice.specs.Observer.{notes, observe}
+use Rattle.std.specs.Prelude.{Some, None}
+use Rattle.choice.specs.Observer.{notes, observe, Observed, sight}
 
 -- 1, a half, and a half below zero
 abbrev one : Float
@@ -26,32 +25,32 @@ ask entropies noises counts domains mask = observe (notes entropies noises count
 -- ---- what decides
 
 least-entropy :
-    (ask (one ∷ half ∷ []) (4 ∷ 9 ∷ []) (2 ∷ 2 ∷ []) (3 ∷ 3 ∷ []) 3 ≡ Cell 1 half)
-    × (ask (half ∷ negative ∷ []) (4 ∷ 9 ∷ []) (2 ∷ 2 ∷ []) (3 ∷ 3 ∷ []) 3 ≡ Cell 1 negative)
+    (ask (one ∷ half ∷ []) (4 ∷ 9 ∷ []) (2 ∷ 2 ∷ []) (3 ∷ 3 ∷ []) 3 ≡ Some (sight 1 half))
+    × (ask (half ∷ negative ∷ []) (4 ∷ 9 ∷ []) (2 ∷ 2 ∷ []) (3 ∷ 3 ∷ []) 3 ≡ Some (sight 1 negative))
 unfolding ask
 least-entropy = (refl, refl)
 
-then-noise : ask (one ∷ one ∷ []) (9 ∷ 4 ∷ []) (2 ∷ 2 ∷ []) (3 ∷ 3 ∷ []) 3 ≡ Cell 1 one
+then-noise : ask (one ∷ one ∷ []) (9 ∷ 4 ∷ []) (2 ∷ 2 ∷ []) (3 ∷ 3 ∷ []) 3 ≡ Some (sight 1 one)
 unfolding ask
 then-noise = refl
 
-then-cell : ask (one ∷ one ∷ []) (4 ∷ 4 ∷ []) (2 ∷ 2 ∷ []) (3 ∷ 3 ∷ []) 3 ≡ Cell 0 one
+then-cell : ask (one ∷ one ∷ []) (4 ∷ 4 ∷ []) (2 ∷ 2 ∷ []) (3 ∷ 3 ∷ []) 3 ≡ Some (sight 0 one)
 unfolding ask
 then-cell = refl
 
 -- ---- what is passed over
 
 -- a note of three weighted patterns, of which two are left
-stale_passed : ask (half ∷ one ∷ []) (4 ∷ 9 ∷ []) (3 ∷ 2 ∷ []) (3 ∷ 3 ∷ []) 7 ≡ Cell 1 one
+stale_passed : ask (half ∷ one ∷ []) (4 ∷ 9 ∷ []) (3 ∷ 2 ∷ []) (3 ∷ 3 ∷ []) 7 ≡ Some (sight 1 one)
 unfolding ask
 stale_passed = refl
 
 -- a cell with one pattern, though its count is right; with a pattern of weight 0 beside it there are two
-one-pattern-passed : ask (half ∷ one ∷ []) (4 ∷ 9 ∷ []) (1 ∷ 1 ∷ []) (1 ∷ 3 ∷ []) 1 ≡ Cell 1 one
+one-pattern-passed : ask (half ∷ one ∷ []) (4 ∷ 9 ∷ []) (1 ∷ 1 ∷ []) (1 ∷ 3 ∷ []) 1 ≡ Some (sight 1 one)
 unfolding ask
 one-pattern-passed = refl
 
 -- no note, though no weighted pattern is what the cell has
-no-note-passed : ask (half ∷ []) (4 ∷ []) (0 ∷ []) (6 ∷ []) 1 ≡ Nothing
+no-note-passed : ask (half ∷ []) (4 ∷ []) (0 ∷ []) (6 ∷ []) 1 ≡ None
 unfolding ask
 no-note-passed = refl

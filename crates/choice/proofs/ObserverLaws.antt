@@ -20,9 +20,10 @@ use Rattle.order.specs.Numbers.{Number, Numbers}
 use Rattle.order.specs.Order.{beats}
 use Rattle.adjacency.specs.Weights.{weight_sum, mask}
 use Rattle.notes.specs.Notes.{note_of}
-use Rattle.choice.specs.declared.inner.Observed.{Observed}
-use Rattle.choice.specs.declared.inner.Observed.TheVariants.{Cell, Nothing}
-use Rattle.choice.specs.Observer.{Notes, notes_in, Lengths, valid, note_at, entropy_at, counts_at, better_than, Best, At, Empty, join, candidate, best_in, observed_as, observe}
+use Rattle.std.specs.Prelude.{Some, None}
+use Rattle.std.proofs.lemmas.Option.{same_Some}
+use Rattle.choice.specs.declared.inner.Sight.{Sight}
+use Rattle.choice.specs.Observer.{Notes, notes_in, Lengths, valid, note_at, entropy_at, counts_at, better_than, Best, At, Empty, join, candidate, best_in, observed_as, observe, Observed, sight}
 use Rattle.loops.proofs.TestLaws.{both}
 use Rattle.words.proofs.CountLaws.{many_none}
 use Rattle.order.proofs.OrderLaws.{lt_irreflexive}
@@ -179,27 +180,31 @@ module _ (v : Notes) where
   by_best P f = f (best_in v 0 (length v.domains)) (scanned v (length v.domains))
 
   -- nothing is observed exactly where no note counts
-  pub counts-nothing : ((j : ℕ) → j < length v.domains → counts_at v j ≡ false) → observe v ≡ Nothing
-  counts-nothing none = by_best (λ o. o ≡ Nothing) go
+  pub counts-nothing : ((j : ℕ) → j < length v.domains → counts_at v j ≡ false) → observe v ≡ None
+  counts-nothing none = by_best (λ o. o ≡ None) go
     where
-      go : (b : Best) → Scanned v (length v.domains) b → observed_as b ≡ Nothing
+      go : (b : Best) → Scanned v (length v.domains) b → observed_as b ≡ None
       go Empty s = refl
       go (At c n) (en, p) = absurd (true≢false (sym p.counts ∙ none c p.inside))
 
-  pub nothing-counts : observe v ≡ Nothing → (j : ℕ) → j < length v.domains → counts_at v j ≡ false
-  nothing-counts = by_best (λ o. o ≡ Nothing → (j : ℕ) → j < length v.domains → counts_at v j ≡ false) go
+  pub nothing-counts : observe v ≡ None → (j : ℕ) → j < length v.domains → counts_at v j ≡ false
+  nothing-counts = by_best (λ o. o ≡ None → (j : ℕ) → j < length v.domains → counts_at v j ≡ false) go
     where
-      go : (b : Best) → Scanned v (length v.domains) b → observed_as b ≡ Nothing → (j : ℕ) → j < length v.domains → counts_at v j ≡ false
+      go : (b : Best) → Scanned v (length v.domains) b → observed_as b ≡ None → (j : ℕ) → j < length v.domains → counts_at v j ≡ false
       go Empty s e = s
       go (At c n) s e = let z : ◌≡◌ {A = ℕ} 0 1 = cc in absurd (omega arith)
 
-  module _ {c : ℕ} {e : Float} (is : observe v ≡ Cell c e) where
+  module _ {c : ℕ} {e : Float} (is : observe v ≡ Some (sight c e)) where
     found : (e ≡ entropy_at v c) × Picked v (length v.domains) c
-    found = by_best (λ o. o ≡ Cell c e → (e ≡ entropy_at v c) × Picked v (length v.domains) c) go is
+    found = by_best (λ o. o ≡ Some (sight c e) → (e ≡ entropy_at v c) × Picked v (length v.domains) c) go is
       where
-        go : (b : Best) → Scanned v (length v.domains) b → observed_as b ≡ Cell c e → (e ≡ entropy_at v c) × Picked v (length v.domains) c
+        go : (b : Best) → Scanned v (length v.domains) b → observed_as b ≡ Some (sight c e) → (e ≡ entropy_at v c) × Picked v (length v.domains) c
         go Empty s q = let z : ◌≡◌ {A = ℕ} 0 1 = cc in absurd (omega arith)
-        go (At d n) (en, p) q = let a : d ≡ c = cc in let b : n.entropy ≡ e = cc in rw (← a, ← b) (ap (λ m. m.entropy) en, p)
+        go (At d n) (en, p) q =
+            let same = same_Some (sight d n.entropy) (sight c e) q in
+            let a : d ≡ c = ap (λ (x : Sight). x.cell) same in
+            let b : n.entropy ≡ e = ap (λ (x : Sight). x.entropy) same in
+            rw (← a, ← b) (ap (λ m. m.entropy) en, p)
 
     pub observed-seen : Seen v c e
     observed-seen = record { inside = found.1.inside; counts = found.1.counts; entropy = found.0 }
@@ -214,8 +219,8 @@ module _ (v : Notes) where
 
   -- and it is the only one to which every other gives way
   pub least-observed : Numbers v.entropies → length v.counts ≤ length v.entropies → (c : ℕ) → c < length v.domains → counts_at v c ≡ true
-      → ((j : ℕ) → j < length v.domains → Yields v c j) → observe v ≡ Cell c (entropy_at v c)
-  least-observed numbers each c l h yields = by_best (λ o. o ≡ Cell c (entropy_at v c)) go
+      → ((j : ℕ) → j < length v.domains → Yields v c j) → observe v ≡ Some (sight c (entropy_at v c))
+  least-observed numbers each c l h yields = by_best (λ o. o ≡ Some (sight c (entropy_at v c))) go
     where
       same : (d : ℕ) → Picked v (length v.domains) d → d ≡ c
       same d p =
@@ -223,6 +228,6 @@ module _ (v : Notes) where
           let kept = yields d p.inside in
           le_antisymm (not-below p.counts h kept least) (not-below h p.counts least kept)
 
-      go : (b : Best) → Scanned v (length v.domains) b → observed_as b ≡ Cell c (entropy_at v c)
+      go : (b : Best) → Scanned v (length v.domains) b → observed_as b ≡ Some (sight c (entropy_at v c))
       go Empty s = absurd (true≢false (sym h ∙ s c l))
       go (At d n) (en, p) = rw (en, same d p)

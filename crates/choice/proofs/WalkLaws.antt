@@ -14,8 +14,7 @@ use lib.Seq.{get_or-drop, get_or-set_same, get_or-set_other, take-set-le, drop-s
 use borrow.Author.Tests.{eqb-true, eqb-false}
 use Rattle.order.specs.Numbers.{Numbers}
 use Rattle.notes.specs.Blocks.{blocks, block_at}
-use Rattle.choice.specs.declared.inner.Observed.{Observed}
-use Rattle.choice.specs.Observer.{Notes, notes_in, Lengths, join, best_in, best_at, observed_as, observe}
+use Rattle.choice.specs.Observer.{Notes, notes_in, Lengths, join, best_in, best_at, observed_as, observe, Observed}
 use Rattle.choice.specs.Cache.{start_of, decode, code_at, Fresh, codes, recoded}
 use Rattle.choice.proofs.ObserverLaws.{Ordered, ordered, lengths_each}
 use Rattle.choice.proofs.BestLaws.{best_none}

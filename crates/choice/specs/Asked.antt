@@ -1,20 +1,18 @@
 -- A choice that is asked apart from a run. Follows docs/RULES.md, "Run" and "Refusals".
 -- Assumes nothing.
-use Rattle.std.specs.Prelude.{List, ℕ, zero, suc, ◌%◌}
-use Rattle.std.proofs.Math.Option.{Option, none, some}
+use Rattle.std.specs.Prelude.{List, ℕ, zero, suc, ◌%◌, Result, Ok, Err, None, Option}
 use Rattle.words.specs.Words.{beyond}
 use Rattle.adjacency.specs.Weights.{weight_sum}
 use Rattle.adjacency.specs.Checks.{bad_count, weights_misfit, over_weight}
+use Rattle.refusals.specs.declared.Refusal.{Refusal}
 use Rattle.refusals.specs.Refusals.{Asked, refused, answer, number, checked}
 use Rattle.logarithms.specs.Asked.{domain_tests}
 use Rattle.choice.specs.Choice.{taken}
-use Rattle.choice.specs.declared.Choice.{Choice}
-use Rattle.choice.specs.declared.Choice.TheVariants.{Pattern, Nothing, Refused}
 
 -- none without a weighted pattern
 unfoldable pub taken_if : ℕ → List ℕ → ℕ → ℕ → Option ℕ
 unfolding taken
-taken_if zero weights w word = none
+taken_if zero weights w word = None
 taken_if (suc s) weights w word = taken weights w (word % suc s)
 
 unfoldable pub choice_of : List ℕ → ℕ → ℕ → Option ℕ
@@ -22,11 +20,10 @@ unfolding taken_if weight_sum
 choice_of weights w word = taken_if (weight_sum weights w) weights w word
 
 -- the number or the pattern that an answer tells
-unfoldable pub choice_told : Choice → Asked (Option ℕ)
+unfoldable pub choice_told : Result (Option ℕ) Refusal → Asked (Option ℕ)
 unfolding number
-choice_told (Pattern p) = answer (some p)
-choice_told Nothing = answer none
-choice_told (Refused r) = refused (number r)
+choice_told (Ok chosen) = answer chosen
+choice_told (Err r) = refused (number r)
 
 -- the choice, where nothing is refused: 3, 5, 4, 9
 unfoldable pub choice_asked : ℕ → List ℕ → ℕ → ℕ → Asked (Option ℕ)

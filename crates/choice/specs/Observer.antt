@@ -1,7 +1,6 @@
 -- Which cell is observed: of those whose note counts, the least entropy, then the least noise word, then the least cell. Follows docs/RULES.md, "Run".
 -- Assumes nothing.
-use Rattle.std.specs.Prelude.{Bool, not, cond, ◌&&◌, List, ◌≡◌, ℕ, zero, suc, ◌+◌, ◌*◌, leb, eqb, Float, length, get_or, take, drop}
-use Rattle.std.proofs.Math.Option.{Option, none, some}
+use Rattle.std.specs.Prelude.{Bool, not, cond, ◌&&◌, List, ◌≡◌, ℕ, zero, suc, ◌+◌, ◌*◌, leb, eqb, Float, length, get_or, take, drop, Some, None, Option}
 use Rattle.std.specs.Int.Bits.{bit_and}
 use Rattle.std.specs.Float.{nan}
 use Rattle.order.specs.Order.{beats}
@@ -9,8 +8,7 @@ use Rattle.words.specs.Words.{how_many}
 use Rattle.notes.specs.Blocks.{blocks}
 use Rattle.notes.specs.Notes.{note}
 use Rattle.notes.specs.declared.inner.Note.{Note}
-use Rattle.choice.specs.declared.inner.Observed.{Observed}
-use Rattle.choice.specs.declared.inner.Observed.TheVariants.{Cell, Nothing}
+use Rattle.choice.specs.declared.inner.Sight.{Sight}
 
 -- what the observer reads: an entropy, a noise word, a weighted count and a domain for each cell, and the word of the weighted patterns
 pub record Notes : Type 0 where
@@ -81,9 +79,16 @@ best_in v start (suc k) = join (best_in v start k) (candidate v (start + k))
 unfoldable pub best_at : ℕ → Notes → ℕ → Best
 best_at cells v b = cond (eqb b cells) Empty (At b (note_at v b))
 
+-- what is observed: a cell with its entropy, or none
+abbrev pub Observed : Type 0
+Observed = Option Sight
+
+abbrev pub sight : ℕ → Float → Sight
+sight c e = record { cell = c; entropy = e }
+
 abbrev pub observed_as : Best → Observed
-observed_as Empty = Nothing
-observed_as (At c n) = Cell c n.entropy
+observed_as Empty = None
+observed_as (At c n) = Some (sight c n.entropy)
 
 -- the cell to observe and its entropy, or nothing
 unfoldable pub observe : Notes → Observed
@@ -91,10 +96,6 @@ unfolding best_in
 observe v = observed_as (best_in v 0 (length v.domains))
 
 -- the cell and the entropy that an observation names
-pub record Sight : Type 0 where
-  pub cell : ℕ
-  pub entropy : Float
-
 unfoldable pub sight_of : Observed → Option Sight
-sight_of (Cell c e) = some (record { cell = c; entropy = e })
-sight_of Nothing = none
+sight_of (Some x) = Some x
+sight_of None = None

@@ -1,6 +1,5 @@
 // The steps of a run, without checks. Follows docs/RULES.md, "Run".
-ghost use Rattle.std.specs.Prelude.{List, ◌≡◌, ℕ, ◌*◌, ◌≤◌, ◌<◌, length, drop};
-ghost use Rattle.std.proofs.Math.Option.{some};
+ghost use Rattle.std.specs.Prelude.{List, ◌≡◌, ℕ, ◌*◌, ◌≤◌, ◌<◌, length, drop, Some};
 ghost use Rattle.order.specs.Numbers.{Numbers};
 ghost use Rattle.adjacency.specs.Weights.{Bounded, weight_sum};
 ghost use Rattle.choice.specs.Observer.{Lengths, notes_in, best_at, observed_as, observe};
@@ -10,27 +9,30 @@ ghost use Rattle.choice.specs.Choice.{taken};
 use crate::blocks;
 use notes::inner::Note;
 
-// Which cell to observe, with its entropy, or nothing.
-#[derive(Clone, Copy)]
-pub enum Observed {
-    Cell(usize, f32),
-    Nothing,
+// The cell to observe, with its entropy.
+#[derive(Clone, Copy, Debug)]
+pub struct Sight {
+    pub cell: usize,
+    pub entropy: f32,
 }
 
 // The best cell is told by its entropy alone.
-fn told(cells: usize, noise: &[u32], floats: &[f32], marks: &[u8], best: usize) -> Observed
+fn told(cells: usize, noise: &[u32], floats: &[f32], marks: &[u8], best: usize) -> Option<Sight>
     requires { (length noise.now ≡ cells) × (length floats.now ≡ 2 * cells) × (cells ≤ length marks.now) × (best ≤ cells) }
     ensures { (domains : List ℕ) (weighted : ℕ)
         → result ≡ observed_as (best_at cells (notes_in cells noise.now domains floats.now marks.now weighted) best) }
 {
     if best == cells {
-        return Observed::Nothing;
+        return None;
     }
     let note = Note::of_cell(noise, cells, best, floats, marks);
-    Observed::Cell(best, note.entropy)
+    Some(Sight {
+        cell: best,
+        entropy: note.entropy,
+    })
 }
 
-// The cell to observe: of those whose note counts, the least entropy, then the least noise word, then the least cell.
+// The cell to observe, or none: of those whose note counts, the least entropy, then the least noise word, then the least cell.
 // Only the cells of blocks whose mark is 0 are looked at; afterwards no mark of a block is.
 pub fn observe(
     cells: usize,
@@ -39,7 +41,7 @@ pub fn observe(
     floats: &[f32],
     marks: &mut [u8],
     weighted: u64,
-) -> Observed
+) -> Option<Sight>
     requires lengths { Lengths cells noise.now domains.now floats.now marks.old }
     requires numbers { Numbers (drop cells floats.now) }
     requires fresh { Fresh (notes_in cells noise.now domains.now floats.now marks.old weighted) (drop (2 * cells) marks.old) }
@@ -72,7 +74,7 @@ pub fn forget(cells: usize, marks: &mut [u8])
 // The pattern that a number takes, which is below the word's weight sum: only patterns of the word are visited.
 pub fn choose(weights: &[u32], word: u64, number: u32) -> usize
     requires { Bounded weights.now word × (number < weight_sum weights.now word) }
-    ensures { some result ≡ taken weights.now word number }
+    ensures { Some result ≡ taken weights.now word number }
 {
     let mut left = word;
     let mut r = number;

@@ -6,32 +6,25 @@
 ghost use Rattle.std.specs.Prelude.{◌≡◌};
 ghost use Rattle.choice.specs.Asked.{choice_told, choice_asked};
 
-use refusals::{Refusal, Verdict};
+use refusals::Refusal;
 
 mod blocks;
 pub mod inner;
 mod observer;
 
-// What asking for a choice comes to: a pattern, nothing for a domain without a weighted pattern, or the refusal.
-#[derive(Clone, Copy)]
-pub enum Choice {
-    Pattern(usize),
-    Nothing,
-    Refused(Refusal),
-}
-
-// The pattern that a word chooses in a domain, asked apart from a run.
-pub fn choice_of(count: usize, weights: &[u32], domain: u64, word: u32) -> Choice
+// The pattern that a word chooses in a domain, asked apart from a run, and none for a domain without a weighted pattern.
+pub fn choice_of(
+    count: usize,
+    weights: &[u32],
+    domain: u64,
+    word: u32,
+) -> Result<Option<usize>, Refusal>
     ensures { choice_told result ≡ choice_asked count weights.now domain word }
 {
-    match logarithms::inner::check_domain(count, weights, domain) {
-        Verdict::Refused(refusal) => Choice::Refused(refusal),
-        Verdict::Accepted => {
-            let sum = adjacency::inner::weight_sum(weights, domain);
-            if sum == 0 {
-                return Choice::Nothing;
-            }
-            Choice::Pattern(inner::choose(weights, domain, word % sum))
-        }
+    logarithms::inner::check_domain(count, weights, domain)?;
+    let sum = adjacency::inner::weight_sum(weights, domain);
+    if sum == 0 {
+        return Ok(None);
     }
+    Ok(Some(inner::choose(weights, domain, word % sum)))
 }

@@ -1,3 +1,4 @@
+pub mod EndingLaws
 pub mod StartLaws
 pub mod StepLaws
 pub mod WatchLaws

@@ -3,7 +3,6 @@
 -- Assumes nothing.
 use mathlib.Core.Bool.{Bool, true, false, cond, true≢false}
 use mathlib.Core.List.{List, [], ◌∷◌}
-use mathlib.Core.Option.{Option, some}
 use mathlib.Core.Path.{◌≡◌, refl, sym, ap, subst, ◌∙◌}
 use Prim.Native.Nat.{ℕ, zero, suc, ◌+◌, ◌*◌, ◌%◌, ◌≤◌, ◌<◌}
 use native.Mathlib.Decide.{ℕ_discrete}
@@ -31,9 +30,9 @@ use Rattle.propagation.specs.Lent.{state_of, Lent, Ground}
 use Rattle.notes.specs.Sizes.{Alongside}
 use Rattle.forbids.specs.declared.Forbid.{Forbid}
 use Rattle.course.specs.Run.{Given, asked, reduced_by, laid, chosen, decided, still, notes_of, sighted, seen, drawn, turn, Turn, ended}
-use Rattle.choice.specs.declared.inner.Observed.{Observed}
-use Rattle.choice.specs.declared.inner.Observed.TheVariants.{Cell, Nothing}
-use Rattle.choice.specs.Observer.{notes_in, observe, Sight, sight_of}
+use Rattle.std.specs.Prelude.{Some, None, Option}
+use Rattle.choice.specs.declared.inner.Sight.{Sight}
+use Rattle.choice.specs.Observer.{notes_in, observe, sight_of, Observed, sight}
 use Rattle.choice.specs.Choice.{draw, taken}
 use Rattle.forbids.specs.Forbids.{asking}
 use Rattle.loops.proofs.TestLaws.{every-turn, every-stop, every-end}
@@ -157,11 +156,11 @@ module _ {P n : ℕ} {D C Q : List ℕ} {pile : Pile} (L : Lent P n D C Q pile) 
         (λ r a b t. other_bit r (eqb-false r p t) ∙ ap (λ (w : ℕ). bit w r) z ∙ bit_none r)
 
     -- q is the least that is left
-    module _ {q : ℕ} (some : left ≡ 0 → ⊥) (least-is : q ≡ least 64 left) where
+    module _ {q : ℕ} (Some : left ≡ 0 → ⊥) (least-is : q ≡ least 64 left) where
       next_found : (q < P) × (bit left q ≡ 1)
       next_found =
           subst (λ (r : ℕ). (r < P) × (bit left r ≡ 1)) (sym least-is)
-          (least-found 64 P left L.patterns (omega (arith, is, without-le (get_or D c 0) p, L.safe.fit.words c)) some)
+          (least-found 64 P left L.patterns (omega (arith, is, without-le (get_or D c 0) p, L.safe.fit.words c)) Some)
 
       pub next_below : q < P
       next_below = next_found.0
@@ -257,7 +256,7 @@ module _ {P : ℕ} {ws : List ℕ} where
 -- ---- a choice
 
 -- the pattern that a number takes is one of the table
-pub taken-below : {P n : ℕ} {D C Q : List ℕ} {pile : Pile} (L : Lent P n D C Q pile) (ws : List ℕ) (c r : ℕ) {p : ℕ} → some p ≡ taken ws (get_or D c 0) r → p < P
+pub taken-below : {P n : ℕ} {D C Q : List ℕ} {pile : Pile} (L : Lent P n D C Q pile) (ws : List ℕ) (c r : ℕ) {p : ℕ} → Some p ≡ taken ws (get_or D c 0) r → p < P
 taken-below {P} {n} {D} L ws c r {p} e = bit_below (get_or D c 0) P p (L.safe.fit.words c) (taken_in ws (get_or D c 0) r p (sym e)).0
 
 -- a number modulo the weight sum is below it
@@ -266,7 +265,7 @@ drawn-below r {sum} e h = subst (λ (t : ℕ). r % sum < t) e (mod-lt r (omega (
 
 -- with the laying of a forbid that keeps it the choice is made
 pub chosen_is : (i : Given) (c r : ℕ) (s : State Beside) {s' : State Beside} {sum p k : ℕ} → sum ≡ weight_sum i.weights (get_or s.domains c 0)
-    → some p ≡ taken i.weights (get_or s.domains c 0) (r % sum) → (k ≡ 0 → ⊥) → s' ≡ laid i (asking c p k) s
+    → Some p ≡ taken i.weights (get_or s.domains c 0) (r % sum) → (k ≡ 0 → ⊥) → s' ≡ laid i (asking c p k) s
     → s' ≡ chosen i c (taken i.weights (get_or s.domains c 0) (r % weight_sum i.weights (get_or s.domains c 0))) s
 unfolding laid asked chosen
 chosen_is i c r s is e z f =
@@ -295,16 +294,16 @@ module _ (i : Given) (words : List ℕ) (used : ℕ) (s : State Beside) {n m : �
   unfolding sighted notes_of
   observed-sight = rw (e, all, masked)
 
-  cell-sight : {c : ℕ} {f : Float} → o ≡ Cell c f → sighted i s ≡ some (record { cell = c; entropy = f })
+  cell-sight : {c : ℕ} {f : Float} → o ≡ Some (sight c f) → sighted i s ≡ Some (record { cell = c; entropy = f })
   unfolding sight_of
   cell-sight q = sym observed-sight ∙ ap sight_of q
 
   -- the cell that is observed is one of the grid, and weighs something
-  pub cell-inside : {c : ℕ} {f : Float} → o ≡ Cell c f → c < length s.domains
+  pub cell-inside : {c : ℕ} {f : Float} → o ≡ Some (sight c f) → c < length s.domains
   unfolding sighted notes_of
   cell-inside q = (sight-counts (notes_of i s) _ (cell-sight q)).0
 
-  pub cell-weight : {c : ℕ} {f : Float} → o ≡ Cell c f → 0 < weight_sum i.weights (get_or s.domains c 0)
+  pub cell-weight : {c : ℕ} {f : Float} → o ≡ Some (sight c f) → 0 < weight_sum i.weights (get_or s.domains c 0)
   unfolding sighted notes_of
   cell-weight {c} q = valid-weight i.weights (get_or (notes_of i s).counts c 0) (get_or s.domains c 0) (sight-counts (notes_of i s) _ (cell-sight q)).1
 
@@ -313,22 +312,22 @@ module _ (i : Given) (words : List ℕ) (used : ℕ) (s : State Beside) {n m : �
     unfolding turn
     turn-sight k = rw (whole, k)
 
-    pub turn-still : o ≡ Nothing → {end : ℕ} → end ≡ cond (decided s.domains) 0 1 → Turn.over (ended end used s.domains) ≡ turn i words used s
+    pub turn-still : o ≡ None → {end : ℕ} → end ≡ cond (decided s.domains) 0 1 → Turn.over (ended end used s.domains) ≡ turn i words used s
     unfolding seen still sight_of
     turn-still q d = rw d (turn-sight (sym observed-sight ∙ ap sight_of q))
 
-    pub turn-paused : {c : ℕ} {f : Float} → o ≡ Cell c f → length words ≤ used → Turn.over (ended 2 used s.domains) ≡ turn i words used s
+    pub turn-paused : {c : ℕ} {f : Float} → o ≡ Some (sight c f) → length words ≤ used → Turn.over (ended 2 used s.domains) ≡ turn i words used s
     unfolding seen drawn draw
     turn-paused q h = (rw (le-ltb used (length words) h) at (turn-sight (cell-sight q)))
 
-    turn-chosen : {c : ℕ} {f : Float} {s' : State Beside} → o ≡ Cell c f → used < length words
+    turn-chosen : {c : ℕ} {f : Float} {s' : State Beside} → o ≡ Some (sight c f) → used < length words
         → s' ≡ chosen i c (taken i.weights (get_or s.domains c 0) (get_or words used 0 % weight_sum i.weights (get_or s.domains c 0))) s
         → Turn.on (used + 1) s' ≡ turn i words used s
     unfolding seen drawn draw
     turn-chosen q h k = ap (Turn.on (used + 1)) k ∙ (rw (lt-ltb used (length words) h) at (turn-sight (cell-sight q)))
 
     -- from a state that is the same
-    pub turn-from : {s₁ : State Beside} → s₁ ≡ s → {c : ℕ} {f : Float} {s' : State Beside} → o ≡ Cell c f → used < length words
+    pub turn-from : {s₁ : State Beside} → s₁ ≡ s → {c : ℕ} {f : Float} {s' : State Beside} → o ≡ Some (sight c f) → used < length words
         → s' ≡ chosen i c (taken i.weights (get_or s₁.domains c 0) (get_or words used 0 % weight_sum i.weights (get_or s₁.domains c 0))) s₁
         → Turn.on (used + 1) s' ≡ turn i words used s
     turn-from e {c} q h k =

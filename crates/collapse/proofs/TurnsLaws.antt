@@ -6,9 +6,8 @@ use mathlib.Core.List.{List, []}
 use mathlib.Core.Path.{◌≡◌, refl, sym, ap, subst, ◌∙◌}
 use Prim.Native.Nat.{ℕ, suc, ◌+◌, ◌-◌, ◌*◌, ◌<◌}
 use native.Mathlib.Omega.{arith}
-use lib.Dec.{eqb}
 use lib.ListN.{length, drop, replicate}
-use borrow.Author.Tests.{eq-eqb, ne_eqb}
+use borrow.Author.Tests.{ne_eqb}
 use Rattle.order.specs.Numbers.{Numbers}
 use Rattle.grid.specs.Grid.{cells}
 use Rattle.notes.specs.Blocks.{blocks}
@@ -18,9 +17,12 @@ use Rattle.propagation.specs.declared.inner.propagator.Pile.{Pile}
 use Rattle.notes.specs.Beside.{Beside, beside_in}
 use Rattle.propagation.specs.Lent.{pending_of, state_of, Lent}
 use Rattle.notes.specs.Sizes.{Roomy}
-use Rattle.collapse.specs.declared.inner.turns.Step.{Step}
-use Rattle.collapse.specs.declared.inner.turns.Step.TheVariants.{Over, On}
-use Rattle.collapse.specs.declared.inner.turns.Stop.{Stop}
+use Rattle.std.specs.declared.ops.ControlFlow.{ControlFlow}
+use Rattle.std.specs.declared.ops.ControlFlow.TheVariants.{Continue, Break}
+use Rattle.collapse.specs.declared.Ending.{Ending}
+use Rattle.collapse.specs.declared.Ending.TheVariants.{Contradiction}
+use Rattle.collapse.specs.declared.Stop.{Stop}
+use Rattle.collapse.specs.Endings.{end_number}
 use Rattle.course.specs.Run.{Given, Ended, ended, Turn, turn, collapse, run_of}
 use Rattle.course.specs.Course.{Reached, forbade, chose}
 use Rattle.collapse.specs.Steps.{idle, turn_of, stop_of, Found, Sightly, Laid, ended_as}
@@ -34,15 +36,43 @@ use Rattle.course.proofs.CourseLaws.{chosen-fewer, reached-counted, reached-run}
 
 -- ---- one turn, and where it leaves the turns
 
--- where a turn that is over leaves them, and one that goes on; b is whether a cell was emptied
-pub stop-over : {step : Step} {end : ℕ} (used : ℕ) → step ≡ Over end → record { end = end; used = used } ≡ stop_of step used
+-- what a turn comes to, and where that leaves the turns
+abbrev pub Step : Type 0
+Step = ControlFlow Ending Pile
+
+abbrev pub Left : Type 0
+Left = ControlFlow Stop ℕ
+
+-- where a choice that empties a cell leaves them
+abbrev emptied_at : ℕ → Left
+emptied_at used = Break (record { end = Contradiction; used = used + 1 })
+
+-- where a turn that is over leaves them, and one that goes on, by whether a cell was emptied
+pub stop-over : {step : Step} {end : Ending} (used : ℕ) → step ≡ Break end → Break (record { end = end; used = used }) ≡ stop_of step used
 stop-over used q = sym (ap (λ (x : Step). stop_of x used) q)
 
-pub stop-on : {step : Step} {pile : Pile} {b : Bool} (used : ℕ) → step ≡ On pile → pile.empty ≡ b → record { end = cond b 3 4; used = used + 1 } ≡ stop_of step used
-stop-on {step} {pile} used q e = sym (ap (λ (x : Step). stop_of x used) q ∙ ap (λ (x : Bool). record { end = cond x 3 4; used = used + 1 }) e)
+stop-on : {step : Step} {pile : Pile} {b : Bool} (used : ℕ) → step ≡ Continue pile → pile.empty ≡ b
+    → cond b (emptied_at used) (Continue (used + 1)) ≡ stop_of step used
+stop-on {step} {pile} used q e =
+    sym (ap (λ (x : Step). stop_of x used) q ∙ ap (λ (x : Bool). cond x (emptied_at used) (Continue (used + 1))) e)
+
+pub stop-emptied : {step : Step} {pile : Pile} (used : ℕ) → step ≡ Continue pile → pile.empty ≡ true → emptied_at used ≡ stop_of step used
+stop-emptied used q e = stop-on used q e
+
+pub stop-going : {step : Step} {pile : Pile} (used : ℕ) → step ≡ Continue pile → pile.empty ≡ false → Continue (used + 1) ≡ stop_of step used
+stop-going used q e = stop-on used q e
+
+-- what is told of a stop, or of the words used, is told once
+stop_in : Stop → Left → Stop
+stop_in s (Break t) = t
+stop_in s (Continue n) = s
+
+used_in : ℕ → Left → ℕ
+used_in n (Break s) = n
+used_in n (Continue m) = m
 
 -- a turn that goes on used a word, so one more can be counted
-pub word-left : (i : Given) (words : List ℕ) (used : ℕ) (s : State Beside) (state : Pile → State Beside) {step : Step} {pile : Pile} → step ≡ On pile
+pub word-left : (i : Given) (words : List ℕ) (used : ℕ) (s : State Beside) (state : Pile → State Beside) {step : Step} {pile : Pile} → step ≡ Continue pile
     → turn_of step used state ≡ turn i words used s → used < length words
 word-left i words used s state q e = (turn_on i words used s (sym e ∙ ap (λ (x : Step). turn_of x used state) q)).left
 
@@ -56,11 +86,11 @@ over-whole : (i : Given) (words : List ℕ) (used : ℕ) (s : State Beside) {e :
 over-whole i words used s whole q f = true≢false (sym (subst (Says i words used s) f (turn-over i words used s q).says) ∙ whole)
 
 -- a first turn that is over ends the run
-pub first-over : (i : Given) (words : List ℕ) (s : State Beside) {end : ℕ} → s.empty ≡ false → Turn.over (ended end 0 s.domains) ≡ turn i words 0 s
+pub first-over : (i : Given) (words : List ℕ) (s : State Beside) (end : Ending) → s.empty ≡ false → Turn.over (ended (end_number end) 0 s.domains) ≡ turn i words 0 s
     → ended_as (record { end = end; used = 0 }) s.domains ≡ collapse i words (cells i.grid + 1) 0 s
 unfolding ended_as
-first-over i words s {end} whole q =
-    rw (ne_eqb end 3 (over-whole i words 0 s whole (sym q)))
+first-over i words s end whole q =
+    rw (ne_eqb (end_number end) 3 (over-whole i words 0 s whole (sym q)))
     (sym (ap (λ (fuel : ℕ). collapse i words fuel 0 s) one ∙ collapse-over i words 0 s (cells i.grid) (sym q)))
   where
     one : cells i.grid + 1 ≡ suc (cells i.grid)
@@ -79,18 +109,13 @@ pile_idle P Q pile e k = λ j. record { top = low j; empty = e j }
 abbrev pub stands_in : ℕ → Memory → Pile → State Beside
 stands_in P m pile = state_of P m.domains m.counts m.pending pile (beside_in (length m.domains) m.floats m.marks)
 
--- the lent slices m, which were m₀, where the turns stand: at a state that the run reaches, or at its end; what the marks of blocks say is so; and as long
--- as they were
-pub record Turns (i : Given) (words : List ℕ) (w : ℕ) (m₀ m : Memory) (stop : Stop) : Type 0 where
+-- the lent slices m, which were m₀, where the turns go on with so many words used: at a state that the run reaches; what the marks of blocks say is so; and
+-- as long as they were
+pub record Turns (i : Given) (words : List ℕ) (w : ℕ) (m₀ m : Memory) (used : ℕ) : Type 0 where
   pub laid : Laid i (stands_in i.table.count m₀ idle)
-  pub going : stop.end ≡ 4 → (k : ℕ) × Reached i laid.forbids words k stop.used (stands_in i.table.count m idle)
-  pub over : (stop.end ≡ 4 → ⊥) → ended_as stop m.domains ≡ collapse i words (cells i.grid + 1) 0 (stands_in i.table.count m₀ idle)
+  pub going : (k : ℕ) × Reached i laid.forbids words k used (stands_in i.table.count m idle)
   pub found : Found i.noise w m.domains m.floats m.marks
   pub kept : Same m₀ m (Unit {0})
-
--- what is left to do: the open cells, and the turn that ends it
-abbrev pub unended : ℕ → List ℕ → Stop → ℕ
-unended n D stop = cond (eqb stop.end 4) (open_cells n D + 1) 0
 
 -- from where forbids lead, the turns are the whole run
 pub laid-run : {i : Given} {s : State Beside} (words : List ℕ) (L : Laid i s) → collapse i words (cells i.grid + 1) 0 s ≡ run_of i L.forbids words
@@ -106,12 +131,11 @@ laid-numbers {i} {s} n L = numbers-drop s.beside.floats n (reached-numbers i L.f
 
 -- the turns start where the forbids lead
 pub turns-start : {i : Given} {words : List ℕ} {w : ℕ} {m : Memory} → Laid i (stands_in i.table.count m idle)
-    → Found i.noise w m.domains m.floats m.marks → Turns i words w m m (record { end = 4; used = 0 })
+    → Found i.noise w m.domains m.floats m.marks → Turns i words w m m 0
 turns-start {i} {words} {w} {m} L F =
     record {
       laid = L;
-      going = λ _. (0, laid-reached words L);
-      over = λ n. absurd (n refl);
+      going = (0, laid-reached words L);
       found = F;
       kept = (refl, (refl, (refl, (refl, (refl, tt)))));
     }
@@ -120,118 +144,117 @@ turns-start {i} {words} {w} {m} L F =
 same_after : (m₀ m m' : Memory) {R : Type 0} → Same m₀ m (Unit {0}) → Same m m' R → Same m₀ m' (Unit {0})
 same_after m₀ m m' (a, (b, (c, (d, (e, _))))) (a', (b', (c', (d', (e', _))))) = (a' ∙ a, (b' ∙ b, (c' ∙ c, (d' ∙ d, (e' ∙ e, tt)))))
 
-module _ {i : Given} {words : List ℕ} {w : ℕ} {m₀ m : Memory} {stop : Stop} (T : Turns i words w m₀ m stop) where
+module _ {i : Given} {words : List ℕ} {w : ℕ} {m₀ m : Memory} {used : ℕ} (T : Turns i words w m₀ m used) where
   -- what the slices must be for another turn
   pub turns-roomy : {noise : List ℕ} → Roomy (length m₀.domains) noise m₀.floats m₀.marks → Roomy (length m.domains) noise m.floats m.marks
   turns-roomy R =
       let (d, (_, (_, (f, (k, _))))) = T.kept in
       record { heard = R.heard ∙ sym d; valued = omega (arith, R.valued, d, f); marked = omega (arith, R.marked, d, k) }
 
-  pub turns_sightly : stop.end ≡ 4 → length m₀.marks ≡ 2 * length m₀.domains + blocks (length m₀.domains)
+  pub turns_sightly : length m₀.marks ≡ 2 * length m₀.domains + blocks (length m₀.domains)
       → Sightly i.noise w m.domains m.floats m.marks
-  turns_sightly z e =
+  turns_sightly e =
       let (d, (_, (_, (_, (k, _))))) = T.kept in
       record {
         marked = k ∙ e ∙ ap (λ (n : ℕ). 2 * n + blocks n) (sym d);
-        numbers = numbers-drop m.floats (length m.domains) (reached-numbers i T.laid.forbids T.laid.lawful (T.going z).1).numbers;
+        numbers = numbers-drop m.floats (length m.domains) (reached-numbers i T.laid.forbids T.laid.lawful T.going.1).numbers;
         found = T.found;
       }
 
-  pub turns-lent : stop.end ≡ 4 → length m₀.domains ≡ cells i.grid → Lent i.table.count (length m₀.domains) m₀.domains m₀.counts m₀.pending idle
+  pub turns-lent : length m₀.domains ≡ cells i.grid → Lent i.table.count (length m₀.domains) m₀.domains m₀.counts m₀.pending idle
       → Lent i.table.count (length m.domains) m.domains m.counts m.pending idle
-  turns-lent z all L =
+  turns-lent all L =
       subst (λ (n : ℕ). Lent i.table.count n m.domains m.counts m.pending idle) (sym T.kept.0)
       (lent-after L
       (subst (λ (n : ℕ). Safe i.table.count n (n * i.table.count) (stands_in i.table.count m idle)) (sym all)
-      (reached-stands i T.laid.forbids T.laid.lawful (T.going z).1).settled.safe)
+      (reached-stands i T.laid.forbids T.laid.lawful T.going.1).settled.safe)
       T.kept.1.1.0)
 
   -- a turn that is over at a state that is reached ends the run
-  run-over : {k used : ℕ} {s : State Beside} {e : Ended} → Reached i T.laid.forbids words k used s → turn i words used s ≡ Turn.over e
+  run-over : {k n : ℕ} {s : State Beside} {e : Ended} → Reached i T.laid.forbids words k n s → turn i words n s ≡ Turn.over e
       → e ≡ collapse i words (cells i.grid + 1) 0 (stands_in i.table.count m₀ idle)
-  run-over {k} {used} {s} r q =
+  run-over {k} {n} {s} r q =
       sym (laid-run words T.laid ∙ reached-run i T.laid.forbids T.laid.lawful words r
-      ∙ ap (λ (fuel : ℕ). collapse i words fuel used s) left ∙ collapse-over i words used s (cells i.grid - k) q)
+      ∙ ap (λ (fuel : ℕ). collapse i words fuel n s) left ∙ collapse-over i words n s (cells i.grid - k) q)
     where
       left : cells i.grid + 1 - k ≡ suc (cells i.grid - k)
       left = omega (arith, (reached-counted i T.laid.forbids T.laid.lawful words r).few)
 
   -- ---- a turn of the code
 
-  module _ (z : stop.end ≡ 4) (m' : Memory) where
+  module _ (m' : Memory) where
     -- what a turn comes to, from the slices m to the slices m'
     abbrev Turned : Step → Type 0
-    Turned step = turn_of step stop.used (stands_in i.table.count m') ≡ turn i words stop.used (stands_in i.table.count m idle)
+    Turned step = turn_of step used (stands_in i.table.count m') ≡ turn i words used (stands_in i.table.count m idle)
 
-    -- the number of an end is neither that of a contradiction, which a turn leaves to the next, nor 4
-    ends-says : (end : ℕ) → Turned (Over end) → Says i words stop.used (stands_in i.table.count m idle) end
-    ends-says end q = (turn-over i words stop.used (stands_in i.table.count m idle) (sym q)).says
+    -- the end of a turn is not a contradiction, which a turn leaves to the next
+    not_three : (end : Ending) → Turned (Break end) → end_number end ≡ 3 → ⊥
+    not_three end q = over-whole i words used (stands_in i.table.count m idle) refl (sym q)
 
-    not_three : (end : ℕ) → Turned (Over end) → end ≡ 3 → ⊥
-    not_three end q = over-whole i words stop.used (stands_in i.table.count m idle) refl (sym q)
+    -- the state after a choice
+    reached : (pile : Pile) → Turned (Continue pile) → Reached i T.laid.forbids words (suc T.going.0) (used + 1) (stands_in i.table.count m' pile)
+    reached pile q = chose T.going.1 (sym q)
 
-    not-four : (end : ℕ) → Turned (Over end) → end ≡ 4 → ⊥
-    not-four end q f = subst (Says i words stop.used (stands_in i.table.count m idle)) f (ends-says end q)
+    -- what the stop that is told comes to
+    told : {t : Stop} (stop : Stop) → ◌≡◌ {A = Left} (Break stop) (Break t) → ended_as t m'.domains ≡ collapse i words (cells i.grid + 1) 0 (stands_in i.table.count m₀ idle)
+        → ended_as stop m'.domains ≡ collapse i words (cells i.grid + 1) 0 (stands_in i.table.count m₀ idle)
+    unfolding stop_in
+    told stop e f = ap (λ (s : Stop). ended_as s m'.domains) (ap (stop_in stop) e) ∙ f
 
-    -- what is left is less
-    less_by : (step : Step) → Turned step → unended (cells i.grid) m'.domains (stop_of step stop.used) < open_cells (cells i.grid) m.domains + 1
-    less_by (Over end) q = rw (ne_eqb end 4 (not-four end q)) (omega arith)
-    less_by (On pile) q = go pile.empty refl
+    -- a turn leaves the turns at the run's end
+    over_by : (step : Step) → Turned step → (stop : Stop) → Break stop ≡ stop_of step used
+        → ended_as stop m'.domains ≡ collapse i words (cells i.grid + 1) 0 (stands_in i.table.count m₀ idle)
+    unfolding ended_as
+    over_by (Break end) q stop e =
+        told stop e (rw (ne_eqb (end_number end) 3 (not_three end q)) (run-over T.going.1 (sym q)))
+    over_by (Continue pile) q stop e = go pile.empty refl e
       where
-        go : (b : Bool) → pile.empty ≡ b
-            → cond (eqb (cond b 3 4) 4) (open_cells (cells i.grid) m'.domains + 1) 0 < open_cells (cells i.grid) m.domains + 1
-        go true e = omega arith
-        go false e =
-            let s = stands_in i.table.count m idle in
-            omega (
-              arith,
-              chosen-fewer i T.laid.forbids T.laid.lawful words stop.used s
-                  (reached-stands i T.laid.forbids T.laid.lawful (T.going z).1) (stop.used + 1) (stands_in i.table.count m' pile)
-                  (turn_on i words stop.used s (sym q)) e,
-            )
+        go : (b : Bool) → pile.empty ≡ b → Break stop ≡ cond b (emptied_at used) (Continue (used + 1))
+            → ended_as stop m'.domains ≡ collapse i words (cells i.grid + 1) 0 (stands_in i.table.count m₀ idle)
+        go true h e = told stop e (run-over (reached pile q) (turn-empty i words (used + 1) (stands_in i.table.count m' pile) h))
+        go false h e = let z : ◌≡◌ {A = ℕ} 0 1 = cc in absurd (omega arith)
 
-    pub turns-less : (step : Step) → Turned step → {stop' : Stop} → stop' ≡ stop_of step stop.used
-        → unended (cells i.grid) m'.domains stop' < unended (cells i.grid) m.domains stop
-    turns-less step q e = rw (e, eq-eqb stop.end 4 z) (less_by step q)
+    pub turns-over : (step : Step) → Turned step → {left : Left} → left ≡ stop_of step used → {stop : Stop} → left ≡ Break stop
+        → ended_as stop m'.domains ≡ collapse i words (cells i.grid + 1) 0 (stands_in i.table.count m₀ idle)
+    turns-over step q e {stop} b = over_by step q stop (sym b ∙ e)
 
-    module _ {R : Type 0} (same : Same m m' R) (F : Found i.noise w m'.domains m'.floats m'.marks) where
-      turns_by : (step : Step) → Turned step → Turns i words w m₀ m' (stop_of step stop.used)
-      unfolding ended_as
-      turns_by (Over end) q =
+    -- or where they go on, with one more word used and less left to do
+    abbrev Goes : ℕ → Type 0
+    Goes more = (pile : Pile) × Turned (Continue pile) × (pile.empty ≡ false) × (more ≡ used + 1)
+
+    goes_by : (step : Step) → Turned step → (more : ℕ) → Continue more ≡ stop_of step used → Goes more
+    unfolding used_in
+    goes_by (Break end) q more e = let z : ◌≡◌ {A = ℕ} 0 1 = cc in absurd (omega arith)
+    goes_by (Continue pile) q more e = go pile.empty refl e
+      where
+        go : (b : Bool) → pile.empty ≡ b → Continue more ≡ cond b (emptied_at used) (Continue (used + 1)) → Goes more
+        go true h e = let z : ◌≡◌ {A = ℕ} 0 1 = cc in absurd (omega arith)
+        go false h e = (pile, q, h, ap (used_in more) e)
+
+    module _ (step : Step) (q : Turned step) {left : Left} (e : left ≡ stop_of step used) {more : ℕ} (b : left ≡ Continue more) where
+      goes : Goes more
+      goes = goes_by step q more (sym b ∙ e)
+
+      pub turns-less : open_cells (cells i.grid) m'.domains < open_cells (cells i.grid) m.domains
+      turns-less =
+          let (pile, turned, whole, _) = goes in
+          let s = stands_in i.table.count m idle in
+          chosen-fewer i T.laid.forbids T.laid.lawful words used s
+          (reached-stands i T.laid.forbids T.laid.lawful T.going.1) (used + 1) (stands_in i.table.count m' pile)
+          (turn_on i words used s (sym turned)) whole
+
+      pub turns-again : {R : Type 0} → Same m m' R → Found i.noise w m'.domains m'.floats m'.marks → Turns i words w m₀ m' more
+      turns-again same F =
+          let (pile, turned, whole, counted) = goes in
           record {
             laid = T.laid;
-            going = λ f. absurd (not-four end q f);
-            over = λ _. rw (ne_eqb end 3 (not_three end q)) (run-over (T.going z).1 (sym q));
+            going = (
+              suc T.going.0,
+              rw counted
+                  (subst (λ (p : Pile). Reached i T.laid.forbids words (suc T.going.0) (used + 1) (stands_in i.table.count m' p))
+                  (pile_idle i.table.count m'.pending pile whole
+                  ((reached-stands i T.laid.forbids T.laid.lawful (reached pile turned)).settled.ended whole)) (reached pile turned)),
+            );
             found = F;
             kept = same_after m₀ m m' T.kept same;
           }
-      turns_by (On pile) q = go pile.empty refl
-        where
-          reached : Reached i T.laid.forbids words (suc (T.going z).0) (stop.used + 1) (stands_in i.table.count m' pile)
-          reached = chose (T.going z).1 (sym q)
-
-          go : (b : Bool) → pile.empty ≡ b → Turns i words w m₀ m' (record { end = cond b 3 4; used = stop.used + 1 })
-          go true e =
-              record {
-                laid = T.laid;
-                going = λ f. absurd (omega (arith, f));
-                over = λ _. run-over reached (turn-empty i words (stop.used + 1) (stands_in i.table.count m' pile) e);
-                found = F;
-                kept = same_after m₀ m m' T.kept same;
-              }
-          go false e =
-              record {
-                laid = T.laid;
-                going = λ _. (
-                  suc (T.going z).0,
-                  subst (λ (p : Pile). Reached i T.laid.forbids words (suc (T.going z).0) (stop.used + 1) (stands_in i.table.count m' p))
-                      (pile_idle i.table.count m'.pending pile e
-                      ((reached-stands i T.laid.forbids T.laid.lawful reached).settled.ended e)) reached,
-                );
-                over = λ n. absurd (n refl);
-                found = F;
-                kept = same_after m₀ m m' T.kept same;
-              }
-
-      pub turns-again : (step : Step) → Turned step → {stop' : Stop} → stop' ≡ stop_of step stop.used → Turns i words w m₀ m' stop'
-      turns-again step q e = subst (Turns i words w m₀ m') (sym e) (turns_by step q)

@@ -20,8 +20,7 @@ use Rattle.propagation.specs.declared.inner.propagator.Pile.{Pile}
 use Rattle.notes.specs.Beside.{Beside, beside, beside_in, lessened_by, lessened, kept, unmarked}
 use Rattle.propagation.specs.Lent.{state_of}
 use Rattle.notes.specs.Sizes.{Roomy}
-use Rattle.choice.specs.declared.inner.Observed.{Observed}
-use Rattle.choice.specs.Observer.{notes_in, observe}
+use Rattle.choice.specs.Observer.{notes_in, observe, Observed}
 use Rattle.choice.specs.Cache.{Fresh, recoded, forgotten}
 use Rattle.forbids.specs.declared.Forbid.{Forbid}
 use Rattle.course.specs.Run.{Given, asked, laid}

@@ -3,6 +3,8 @@
 use Rattle.std.specs.Prelude.{false, cond, List, ◌≡◌, ℕ, ◌+◌, ◌*◌, ◌≤◌, eqb, Float, length, drop, replicate}
 use Rattle.order.specs.Numbers.{Numbers}
 use Rattle.notes.specs.Blocks.{blocks}
+use Rattle.std.specs.declared.ops.ControlFlow.{ControlFlow}
+use Rattle.std.specs.declared.ops.ControlFlow.TheVariants.{Continue, Break}
 use Rattle.propagation.specs.declared.inner.propagator.Pile.{Pile}
 use Rattle.forbids.specs.declared.Forbid.{Forbid}
 use Rattle.consistency.specs.Worklist.{State}
@@ -12,9 +14,10 @@ use Rattle.choice.specs.Cache.{Fresh}
 use Rattle.course.specs.Run.{Given, begun, laid_all, Ended, ended, Turn}
 use Rattle.course.specs.Course.{Lawful}
 use Rattle.course.specs.Called.{memory, Measured}
-use Rattle.collapse.specs.declared.inner.turns.Step.{Step}
-use Rattle.collapse.specs.declared.inner.turns.Step.TheVariants.{Over, On}
-use Rattle.collapse.specs.declared.inner.turns.Stop.{Stop}
+use Rattle.collapse.specs.declared.Ending.{Ending}
+use Rattle.collapse.specs.declared.Ending.TheVariants.{Contradiction}
+use Rattle.collapse.specs.declared.Stop.{Stop}
+use Rattle.collapse.specs.Endings.{end_number}
 
 -- what the start of a run takes: a cell or more, and those lengths of what it writes, whatever is pending
 pub record Opened (P n : ℕ) (domains counts : List ℕ) (floats : List Float) (marks : List ℕ) : Type 0 where
@@ -27,14 +30,14 @@ abbrev pub idle : Pile
 idle = record { top = 0; empty = false }
 
 -- what a turn of the code comes to, with the state that the slices and a pile stand for
-abbrev pub turn_of : Step → ℕ → (Pile → State Beside) → Turn
-turn_of (Over end) used state = Turn.over (ended end used (state idle).domains)
-turn_of (On pile) used state = Turn.on (used + 1) (state pile)
+abbrev pub turn_of : ControlFlow Ending Pile → ℕ → (Pile → State Beside) → Turn
+turn_of (Break end) used state = Turn.over (ended (end_number end) used (state idle).domains)
+turn_of (Continue pile) used state = Turn.on (used + 1) (state pile)
 
--- where the turns stand after it: at its end, or, with one more word used, at a contradiction (3) or going on (4)
-abbrev pub stop_of : Step → ℕ → Stop
-stop_of (Over end) used = record { end = end; used = used }
-stop_of (On pile) used = record { end = cond pile.empty 3 4; used = used + 1 }
+-- where the turns stand after it: at its end, or, with one more word used, at a contradiction or going on
+abbrev pub stop_of : ControlFlow Ending Pile → ℕ → ControlFlow Stop ℕ
+stop_of (Break end) used = Break (record { end = end; used = used })
+stop_of (Continue pile) used = cond pile.empty (Break (record { end = Contradiction; used = used + 1 })) (Continue (used + 1))
 
 -- over the noise words and the word of the weighted patterns
 module _ (noise : List ℕ) (mask : ℕ) where
@@ -56,4 +59,4 @@ pub record Laid (i : Given) (s : State Beside) : Type 0 where
 
 -- what the run comes to where the turns stop over the domains D, which a contradiction writes as zero
 unfoldable pub ended_as : Stop → List ℕ → Ended
-ended_as stop D = ended stop.end stop.used (cond (eqb stop.end 3) (replicate (length D) 0) D)
+ended_as stop D = ended (end_number stop.end) stop.used (cond (eqb (end_number stop.end) 3) (replicate (length D) 0) D)

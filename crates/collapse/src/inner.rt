@@ -5,4 +5,4 @@ mod turns;
 
 pub use laying::lay;
 pub use start::{begin_state, finish};
-pub use turns::{Stop, collapse};
+pub use turns::collapse;

@@ -1,4 +1,5 @@
 // The sentences that a person is told. Each call puts the text of one definition.
+// They take refusals and faults by number, since each answers every number (docs/CONTRACTS.md, `refusal_text`, `fault_text`, `file_text`).
 ghost use Rattle.std.specs.Prelude.{◌≡◌};
 ghost use Rattle.text.specs.Pages.{Puts};
 ghost use Rattle.command.specs.Arguments.{fault_number};

@@ -1,7 +1,7 @@
 -- Laws of consistent domains: they are those whose every pattern has supports, in a table that is accepted; full domains are consistent,
 -- and with one pattern per cell no list is violated. Follows docs/RULES.md, "Propagation". Assumes nothing.
 use mathlib.Core.List.{List}
-use mathlib.Core.Option.{Option, none, some}
+use Rattle.std.specs.Prelude.{Option, None, Some}
 use mathlib.Core.Logic.{inl, inr, ⊎_elim}
 use mathlib.Core.Path.{◌≡◌, refl, ap, subst, ◌∙◌}
 use Prim.Native.Nat.{ℕ, zero, suc, ◌*◌, ◌<◌}
@@ -37,8 +37,8 @@ module _ (t : Table) (g : Grid) (A : Accepted t) where
     consistent_supported C n q d hn hq hd h = go (neighbour g n (opposite d)) refl
       where
         go : (o : Option ℕ) → neighbour g n (opposite d) ≡ o → 0 < supports_by (net_of t g) o (possible D) n q d
-        go none e = A.listed.filled q (opposite d) hq (opposite-below d hd)
-        go (some m) e =
+        go None e = A.listed.filled q (opposite d) hq (opposite-below d hd)
+        go (Some m) e =
             let (r, i, k) = C n q (opposite d) m (opposite-below d hd) h e in
             let hr = pattern-below F m r k in
             omega (
@@ -55,7 +55,7 @@ module _ (t : Table) (g : Grid) (A : Accepted t) where
         let hp = pattern-below F c p h in
         let ho = opposite-below d hd in
         let k = K c p (opposite d) (cell_below F c p h) hp ho h in
-        let e' : neighbour g c (opposite (opposite d)) ≡ some n = ap (λ (x : ℕ). neighbour g c x) (opposite-opposite d hd) ∙ e in
+        let e' : neighbour g c (opposite (opposite d)) ≡ Some n = ap (λ (x : ℕ). neighbour g c x) (opposite-opposite d hd) ∙ e in
         let (r, hr, k') = sum-pos t.count (λ r. possible D n r * times p (list_of t r (opposite d))) (rw (e', supports) at k) in
         let (a, b) = both_of (possible D n r) (times p (list_of t r (opposite d))) (bit-lt (get_or D n 0) r) k' in
         let z = times-agree t A r p (opposite d) hr hp ho ∙ ap (λ (x : ℕ). times r (list_of t p x)) (opposite-opposite d hd) in
@@ -69,8 +69,8 @@ module _ (t : Table) (g : Grid) (A : Accepted t) where
     where
       go : (o : Option ℕ) → neighbour g n (opposite d) ≡ o
           → supports_by (net_of t g) o (possible (filled t.count (cells g))) n q d ≡ length (list_of t q (opposite d))
-      go none e = refl
-      go (some m) e =
+      go None e = refl
+      go (Some m) e =
           sum-ext t.count _ _
           (λ r hr.
           once (possible (filled t.count (cells g)) m r) (times q (list_of t r d))
@@ -93,7 +93,7 @@ consistent-union t g D E U u a b c p d n hd h e =
 -- consistent domains with one pattern per cell violate no list
 pub one_each : (t : Table) (g : Grid) (D : List ℕ) → Fit t.count (cells g) D → Consistent t g D
     → ((c : ℕ) → c < cells g → how_many t.count (get_or D c 0) ≡ 1)
-    → (c p d n q : ℕ) → d < 4 → neighbour g c d ≡ some n → possible D c p ≡ 1 → possible D n q ≡ 1 → InList t p d q
+    → (c p d n q : ℕ) → d < 4 → neighbour g c d ≡ Some n → possible D c p ≡ 1 → possible D n q ≡ 1 → InList t p d q
 one_each t g D F C one c p d n q hd e hp hq =
     let (r, i, hr) = C c p d n hd hp e in
     subst (λ (x : ℕ). InList t p d x)

@@ -1,7 +1,7 @@
 -- The counting argument, over functions: what is possible, the supports, and how many supports are still to be taken.
 -- Main property: taking one support that is due keeps the counts exact, and a pattern whose last support is taken is in no consistent subset.
 -- Assumes nothing.
-use mathlib.Core.Option.{Option, none, some}
+use Rattle.std.specs.Prelude.{Option, None, Some}
 use mathlib.Core.Path.{◌≡◌, refl, sym, ap, ◌∙◌}
 use Prim.Native.Nat.{ℕ, suc, ◌+◌, ◌*◌, ◌/◌, ◌%◌, ◌≤◌, ◌<◌}
 use native.Mathlib.Decide.{ℕ_discrete}
@@ -22,16 +22,16 @@ pub record Net : Type 0 where
 
 -- how many supports pattern q at cell n has from direction d among what is possible; where no cell gives any, a number that never changes
 abbrev pub supports_by : (N : Net) → Option ℕ → (ℕ → ℕ → ℕ) → ℕ → ℕ → ℕ → ℕ
-supports_by N none A n q d = N.slack n q d
-supports_by N (some m) A n q d = sum_to N.count (λ r. A m r * N.ways r d q)
+supports_by N None A n q d = N.slack n q d
+supports_by N (Some m) A n q d = sum_to N.count (λ r. A m r * N.ways r d q)
 
 unfoldable pub supports : (N : Net) → (ℕ → ℕ → ℕ) → ℕ → ℕ → ℕ → ℕ
 supports N A n q d = supports_by N (N.back n d) A n q d
 
 -- how many of them pattern p at cell c gives
 abbrev pub gives_by : (N : Net) → Option ℕ → ℕ → ℕ → ℕ → ℕ → ℕ
-gives_by N none c p q d = 0
-gives_by N (some m) c p q d = same m c * N.ways p d q
+gives_by N None c p q d = 0
+gives_by N (Some m) c p q d = same m c * N.ways p d q
 
 unfoldable pub gives : (N : Net) → ℕ → ℕ → ℕ → ℕ → ℕ → ℕ
 gives N c p n q d = gives_by N (N.back n d) c p q d
@@ -42,23 +42,23 @@ once x y e = rw e (omega arith)
 never : (x y : ℕ) → x ≡ 0 → x * y ≡ 0
 never x y e = rw e (omega arith)
 
-pub gives-yes : (N : Net) (c p n q d : ℕ) → N.back n d ≡ some c → gives N c p n q d ≡ N.ways p d q
+pub gives-yes : (N : Net) (c p n q d : ℕ) → N.back n d ≡ Some c → gives N c p n q d ≡ N.ways p d q
 unfolding gives
 gives-yes N c p n q d e = rw (e, gives) (once (same c c) (N.ways p d q) (same_yes c c refl))
 
-gives-no_by : (N : Net) (o : Option ℕ) (c p q d : ℕ) → (o ≡ some c → ⊥) → gives_by N o c p q d ≡ 0
-gives-no_by N none c p q d f = refl
-gives-no_by N (some m) c p q d f = never (same m c) (N.ways p d q) (same_no m c (λ e. f (ap some e)))
+gives-no_by : (N : Net) (o : Option ℕ) (c p q d : ℕ) → (o ≡ Some c → ⊥) → gives_by N o c p q d ≡ 0
+gives-no_by N None c p q d f = refl
+gives-no_by N (Some m) c p q d f = never (same m c) (N.ways p d q) (same_no m c (λ e. f (ap Some e)))
 
-pub gives-no : (N : Net) (c p n q d : ℕ) → (N.back n d ≡ some c → ⊥) → gives N c p n q d ≡ 0
+pub gives-no : (N : Net) (c p n q d : ℕ) → (N.back n d ≡ Some c → ⊥) → gives N c p n q d ≡ 0
 unfolding gives
 gives-no N c p n q d f = gives-no_by N (N.back n d) c p q d f
 
 -- ---- supports grow with what is possible, and fall by what a removed pattern gave
 
 supports_mono_by : (N : Net) (o : Option ℕ) (H A : ℕ → ℕ → ℕ) → ((m r : ℕ) → H m r ≤ A m r) → (n q d : ℕ) → supports_by N o H n q d ≤ supports_by N o A n q d
-supports_mono_by N none H A h n q d = le_refl (N.slack n q d)
-supports_mono_by N (some m) H A h n q d = sum_mono N.count _ _ (λ r k. mul-le-mul_right (N.ways r d q) (h m r))
+supports_mono_by N None H A h n q d = le_refl (N.slack n q d)
+supports_mono_by N (Some m) H A h n q d = sum_mono N.count _ _ (λ r k. mul-le-mul_right (N.ways r d q) (h m r))
 
 pub supports_mono : (N : Net) (H A : ℕ → ℕ → ℕ) → ((m r : ℕ) → H m r ≤ A m r) → (n q d : ℕ) → supports N H n q d ≤ supports N A n q d
 unfolding supports
@@ -72,8 +72,8 @@ pub record Less (A B : ℕ → ℕ → ℕ) (c p : ℕ) : Type 0 where
 
 supports_less_by : (N : Net) (o : Option ℕ) (A B : ℕ → ℕ → ℕ) (c p : ℕ) → Less A B c p → p < N.count
     → (n q d : ℕ) → supports_by N o A n q d ≡ supports_by N o B n q d + gives_by N o c p q d
-supports_less_by N none A B c p l h n q d = omega arith
-supports_less_by N (some m) A B c p l h n q d =
+supports_less_by N None A B c p l h n q d = omega arith
+supports_less_by N (Some m) A B c p l h n q d =
     elim (ℕ_discrete m c) [
       | yes e ↦
           omega (

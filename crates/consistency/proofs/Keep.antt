@@ -2,7 +2,7 @@
 -- Assumes nothing.
 use mathlib.Core.Bool.{Bool, true, false, ◌||◌}
 use mathlib.Core.List.{List, [], ◌∷◌}
-use mathlib.Core.Option.{Option, none, some}
+use Rattle.std.specs.Prelude.{Option, None, Some}
 use mathlib.Core.Path.{◌≡◌, refl, sym, ap, subst, subst₂, ◌∙◌}
 use Prim.Native.Nat.{ℕ, zero, suc, ◌+◌, ◌*◌, ◌≤◌, ◌<◌}
 use native.Mathlib.Decide.{ℕ_discrete}
@@ -175,11 +175,11 @@ module _ (P n M : ℕ) {X : Type 0} where
     safe-decrements c d (q ∷ qs) s hc hd a S = safe-decrements c d qs (decrement P keep c d q s) hc hd a.1 (safe-decrement c d q s hc hd a.0 S)
 
     -- the same at a neighbour, where there is one
-    pub safe-toward : (o : Option ℕ) (d : ℕ) (qs : List ℕ) (s : State X) → ((c : ℕ) → o ≡ some c → c < n) → d < 4 → AllBelow P qs
+    pub safe-toward : (o : Option ℕ) (d : ℕ) (qs : List ℕ) (s : State X) → ((c : ℕ) → o ≡ Some c → c < n) → d < 4 → AllBelow P qs
         → Safe P n M s → Safe P n M (toward P keep o d qs s)
     unfolding toward
-    safe-toward none d qs s h hd a S = S
-    safe-toward (some c) d qs s h hd a S = safe-decrements c d qs s (h c refl) hd a S
+    safe-toward None d qs s h hd a S = S
+    safe-toward (Some c) d qs s h hd a S = safe-decrements c d qs s (h c refl) hd a S
 
     safe-forbid_at : (b : ℕ) (u : Removal) (s : State X) → u.cell < n → u.pattern < P → possible s.domains u.cell u.pattern ≡ b
         → Safe P n M s → Safe P n M (forbid_at P keep b u s)

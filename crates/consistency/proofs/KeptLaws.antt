@@ -2,7 +2,7 @@
 -- the work list. Follows docs/RULES.md, "Propagation". Assumes nothing.
 use mathlib.Core.Bool.{Bool, true, false}
 use mathlib.Core.List.{List, [], ◌∷◌}
-use mathlib.Core.Option.{Option, none, some}
+use Rattle.std.specs.Prelude.{Option, None, Some}
 use mathlib.Core.Path.{◌≡◌, refl, sym, ap, ◌∙◌}
 use Prim.Native.Nat.{ℕ, zero, suc, ◌*◌, ◌<◌}
 use native.Mathlib.Omega.{arith}
@@ -47,8 +47,8 @@ module _ (P : ℕ) {X : Type 0} (keep : Removal → List ℕ → X → X) (A : L
 
   holds-toward : (o : Option ℕ) (d : ℕ) (qs : List ℕ) (s : State X) → Holds A s → Holds A (toward P keep o d qs s)
   unfolding toward
-  holds-toward none d qs s a = a
-  holds-toward (some n) d qs s a = holds-decrements n d qs s a
+  holds-toward None d qs s a = a
+  holds-toward (Some n) d qs s a = holds-decrements n d qs s a
 
   holds-forbid_at : (b : ℕ) (u : Removal) (s : State X) → Holds A s → Holds A (forbid_at P keep b u s)
   unfolding forbid_at
@@ -112,11 +112,11 @@ module _ (P n M : ℕ) {X : Type 0} (keep : Removal → List ℕ → X → X) (A
       endures_decrements c d qs (decrement P keep c d q s) hc hd b.1 (safe-decrement P n M keep c d q s hc hd b.0 S)
       (endures_decrement_at c d q (get_or s.counts (place P c q d) 0) s hc hd b.0 refl S a)
 
-  endures_toward : (o : Option ℕ) (d : ℕ) (qs : List ℕ) (s : State X) → ((c : ℕ) → o ≡ some c → c < n) → d < 4 → AllBelow P qs → Safe P n M s → Holds A s
+  endures_toward : (o : Option ℕ) (d : ℕ) (qs : List ℕ) (s : State X) → ((c : ℕ) → o ≡ Some c → c < n) → d < 4 → AllBelow P qs → Safe P n M s → Holds A s
       → Holds A (toward P keep o d qs s)
   unfolding toward
-  endures_toward none d qs s l hd b S a = a
-  endures_toward (some c) d qs s l hd b S a = endures_decrements c d qs s (l c refl) hd b S a
+  endures_toward None d qs s l hd b S a = a
+  endures_toward (Some c) d qs s l hd b S a = endures_decrements c d qs s (l c refl) hd b S a
 
   endures_forbid_at : (b : ℕ) (u : Removal) (s : State X) → u.cell < n → possible s.domains u.cell u.pattern ≡ b → Holds A s → Holds A (forbid_at P keep b u s)
   unfolding forbid_at

@@ -2,7 +2,7 @@
 -- Follows docs/RULES.md, "Propagation". Assumes nothing.
 use mathlib.Core.Bool.{Bool, true, false}
 use mathlib.Core.List.{List, [], ◌∷◌}
-use mathlib.Core.Option.{Option, none, some}
+use Rattle.std.specs.Prelude.{Option, None, Some}
 use mathlib.Core.Path.{◌≡◌, refl, ap, ◌∙◌}
 use Prim.Native.Nat.{ℕ, zero, suc, ◌*◌}
 use lib.ListN.{get_or}
@@ -42,8 +42,8 @@ module _ (P : ℕ) {X Y : Type 0} (f : X → Y) (keep : Removal → List ℕ →
 
   mapped-toward : (o : Option ℕ) (d : ℕ) (qs : List ℕ) (s : State X) → mapped f (toward P keep o d qs s) ≡ toward P keep' o d qs (mapped f s)
   unfolding toward
-  mapped-toward none d qs s = refl
-  mapped-toward (some n) d qs s = mapped-decrements n d qs s
+  mapped-toward None d qs s = refl
+  mapped-toward (Some n) d qs s = mapped-decrements n d qs s
 
   mapped-forbid_at : (b : ℕ) (u : Removal) (s : State X) → mapped f (forbid_at P keep b u s) ≡ forbid_at P keep' b u (mapped f s)
   unfolding forbid_at

@@ -2,7 +2,7 @@
 -- Assumes nothing.
 use mathlib.Core.Bool.{cond}
 use mathlib.Core.List.{List, [], ◌∷◌}
-use mathlib.Core.Option.{Option, none, some}
+use Rattle.std.specs.Prelude.{Option, None, Some}
 use mathlib.Core.Path.{◌≡◌, refl, ap}
 use Prim.Native.Nat.{ℕ, ◌+◌, ◌*◌, ◌<◌}
 use native.Mathlib.Decide.{ℕ_discrete}
@@ -45,8 +45,8 @@ due_in P n d [] rest n' q' d' = rest n' q' d'
 due_in P n d (q ∷ qs) rest n' q' d' = same (place P n' q' d') (place P n q d) + due_in P n d qs rest n' q' d'
 
 abbrev pub due_to : ℕ → Option ℕ → ℕ → List ℕ → Due → Due
-due_to P none d qs rest = rest
-due_to P (some n) d qs rest = due_in P n d qs rest
+due_to P None d qs rest = rest
+due_to P (Some n) d qs rest = due_in P n d qs rest
 
 -- what the removal u is to take in direction d, and in directions 0 to 3
 abbrev pub due_toward : Table → Grid → Removal → ℕ → Due → Due
@@ -96,20 +96,20 @@ module _ (P n d n' q' d' : ℕ) (hd : d < 4) (hq' : q' < P) (hd' : d' < 4) (rest
 -- another direction owes nothing here
 to_off : (P : ℕ) (o : Option ℕ) (d : ℕ) (qs : List ℕ) (rest : Due) (n' q' d' : ℕ) → d < 4 → q' < P → d' < 4 → (d' ≡ d → ⊥) → AllBelow P qs
     → due_to P o d qs rest n' q' d' ≡ rest n' q' d'
-to_off P none d qs rest n' q' d' hd hq' hd' f a = refl
-to_off P (some n) d qs rest n' q' d' hd hq' hd' f a = due-off P n d n' q' d' hd hq' hd' rest (λ _ e. f e) qs a
+to_off P None d qs rest n' q' d' hd hq' hd' f a = refl
+to_off P (Some n) d qs rest n' q' d' hd hq' hd' f a = due-off P n d n' q' d' hd hq' hd' rest (λ _ e. f e) qs a
 
 module _ (t : Table) (g : Grid) (A : Accepted t) (u : Removal) (hc : u.cell < cells g) (hp : u.pattern < t.count) (n q : ℕ) (hn : n < cells g) (hq : q < t.count) where
   -- its own direction owes here what the pattern gave
   to_at : (d : ℕ) → d < 4 → (o : Option ℕ) → neighbour g u.cell d ≡ o → (rest : Due)
       → due_to t.count o d (list_of t u.pattern d) rest n q d ≡ gives (net_of t g) u.cell u.pattern n q d + rest n q d
-  to_at d hd none e rest =
+  to_at d hd None e rest =
       omega (
         arith,
         gives-no (net_of t g) u.cell u.pattern n q d
             (λ k. let z : ◌≡◌ {A = ℕ} 0 1 = cc ((neighbour-opposite g u.cell d n hc hd hn).1 k) in omega arith),
       )
-  to_at d hd (some m) e rest =
+  to_at d hd (Some m) e rest =
       elim (ℕ_discrete n m) [
         | yes z ↦
             omega (

@@ -1,7 +1,7 @@
 -- Every step of the work list keeps the counts exact and takes no pattern of a consistent subset. Assumes nothing.
 use mathlib.Core.List.{List, [], ◌∷◌}
 use mathlib.Core.Logic.{◌⊎◌, inl, inr, ⊎_elim}
-use mathlib.Core.Option.{Option, none, some}
+use Rattle.std.specs.Prelude.{Option, None, Some}
 use mathlib.Core.Path.{◌≡◌, refl, ap}
 use Prim.Native.Nat.{ℕ, zero, suc, ◌+◌, ◌≤◌, ◌<◌}
 use native.Mathlib.Decide.{ℕ_discrete}
@@ -146,11 +146,11 @@ module _ (t : Table) (g : Grid) {X : Type 0} (keep : Removal → List ℕ → X 
       kept-decrements s rest n d (q ∷ qs) hn hd a K =
           kept-decrements (decrement t.count keep n d q s) rest n d qs hn hd a.1 (kept-decrement s (due_in t.count n d qs rest) n d q hn hd a.0 K)
 
-      kept-toward : (s : State X) (rest : Due) (o : Option ℕ) (d : ℕ) (qs : List ℕ) → ((n : ℕ) → o ≡ some n → n < cells g) → d < 4 → AllBelow t.count qs
+      kept-toward : (s : State X) (rest : Due) (o : Option ℕ) (d : ℕ) (qs : List ℕ) → ((n : ℕ) → o ≡ Some n → n < cells g) → d < 4 → AllBelow t.count qs
           → Kept t g H D M s (due_to t.count o d qs rest) → Kept t g H D M (toward t.count keep o d qs s) rest
       unfolding toward
-      kept-toward s rest none d qs hn hd a K = K
-      kept-toward s rest (some n) d qs hn hd a K = kept-decrements s rest n d qs (hn n refl) hd a K
+      kept-toward s rest None d qs hn hd a K = K
+      kept-toward s rest (Some n) d qs hn hd a K = kept-decrements s rest n d qs (hn n refl) hd a K
 
       module _ (A : Accepted t) (u : Removal) (hc : u.cell < cells g) (hp : u.pattern < t.count) where
         kept-spread_in : (d : ℕ) → d < 4 → (s : State X) (rest : Due) → Kept t g H D M s (due_toward t g u d rest) → Kept t g H D M (spread_in t g keep u d s) rest

@@ -1,10 +1,9 @@
 -- The work list in its order: what was removed last is worked off first, by direction 0, 1, 2, 3 and by the list's order; without a support from some direction a pattern goes.
 -- What is kept beside the domains at a removal is a parameter, so that the theorem does not depend on it. Follows docs/RULES.md, "Propagation".
 -- Assumes nothing.
-use Rattle.std.specs.Prelude.{Bool, ◌||◌, get_or, set}
+use Rattle.std.specs.Prelude.{Bool, ◌||◌, get_or, set, Option, None, Some}
 use Rattle.std.proofs.Math.Bool.{cond}
 use mathlib.Core.List.{List, [], ◌∷◌}
-use Rattle.std.proofs.Math.Option.{Option, none, some}
 use Prim.Native.Nat.{ℕ, zero, suc, ◌+◌, ◌*◌}
 use Rattle.std.proofs.Math.Dec.{eqb}
 use Rattle.words.specs.Words.{bit, without}
@@ -81,8 +80,8 @@ module _ (P : ℕ) {X : Type 0} (keep : Removal → List ℕ → X → X) where
   -- what a removal takes from the neighbour in direction d, where there is one
   unfoldable pub toward : Option ℕ → ℕ → List ℕ → State X → State X
   unfolding decrements
-  toward none d qs s = s
-  toward (some n) d qs s = decrements n d qs s
+  toward None d qs s = s
+  toward (Some n) d qs s = decrements n d qs s
 
   -- a removal that is asked for, of a pattern whose bit is `b`: one that is gone is let be
   unfoldable pub forbid_at : ℕ → Removal → State X → State X

@@ -2,7 +2,7 @@
 use mathlib.Core.Bool.{Bool, true, false, true≢false}
 use mathlib.Core.List.{List}
 use mathlib.Core.Logic.{◌↔◌}
-use mathlib.Core.Option.{some}
+use Rattle.std.specs.Prelude.{Some}
 use mathlib.Core.Path.{◌≡◌, refl, sym, ap, ◌∙◌, subst}
 use Prim.Native.Nat.{ℕ, zero, suc, ◌^◌, ◌≤◌, ◌<◌}
 use native.Mathlib.Decide.{ℕ_discrete}
@@ -150,7 +150,7 @@ module _ (i : Given) (fs : List Forbid) (L : Lawful i fs) (words : List ℕ) {e 
 
   -- every cell has one pattern, and no list is violated
   pub decided-means : e.end ≡ 0 → ((c : ℕ) → c < cells i.grid → how_many i.table.count (get_or e.domains c 0) ≡ 1)
-      × ((c p d n q : ℕ) → d < 4 → neighbour i.grid c d ≡ some n → possible e.domains c p ≡ 1 → possible e.domains n q ≡ 1 → InList i.table p d q)
+      × ((c p d n q : ℕ) → d < 4 → neighbour i.grid c d ≡ Some n → possible e.domains c p ≡ 1 → possible e.domains n q ≡ 1 → InList i.table p d q)
   decided-means z = (one, one_each i.table i.grid e.domains end-fit (end-greatest (λ y. omega arith)).consistent one)
     where
       one : (c : ℕ) → c < cells i.grid → how_many i.table.count (get_or e.domains c 0) ≡ 1

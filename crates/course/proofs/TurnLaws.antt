@@ -2,7 +2,6 @@
 -- Follows docs/RULES.md, "Run". Assumes nothing.
 use mathlib.Core.Bool.{Bool, true, false, cond}
 use mathlib.Core.List.{List}
-use mathlib.Core.Option.{Option, none, some, some-injective, none-ne-some}
 use mathlib.Core.Path.{◌≡◌, refl, sym, ap, ◌∙◌, subst}
 use Prim.Native.Nat.{ℕ, zero, suc, ◌≤◌, ◌<◌}
 use lib.Ieee.{Float}
@@ -13,9 +12,10 @@ use Rattle.consistency.specs.Domains.{possible}
 use Rattle.consistency.specs.Worklist.{State}
 use Rattle.consistency.specs.Start.{others}
 use Rattle.notes.specs.Beside.{Beside}
-use Rattle.choice.specs.declared.inner.Observed.{Observed}
-use Rattle.choice.specs.declared.inner.Observed.TheVariants.{Cell, Nothing}
-use Rattle.choice.specs.Observer.{Notes, counts_at, observe, Sight, sight_of}
+use Rattle.std.specs.Prelude.{Some, None, Option}
+use Rattle.std.proofs.lemmas.Option.{same_Some, none-some}
+use Rattle.choice.specs.declared.inner.Sight.{Sight}
+use Rattle.choice.specs.Observer.{Notes, counts_at, observe, sight_of, Observed, sight}
 use Rattle.choice.specs.Choice.{Draw, draw, taken}
 use Rattle.course.specs.Run.{Given, reduced_by, notes_of, sighted, Ended, ended, decided, still, chosen, Turn, drawn, seen, turn, collapse}
 use Rattle.course.specs.Course.{other_than, drawn_off, seen_off, turned_off}
@@ -31,23 +31,23 @@ module _ (v : Notes) where
   counts-open c e = (valid-counts (get_or v.counts c 0) (get_or v.domains c 0) v.mask e).several
 
   -- a cell that is named has a note that counts
-  pub sight-counts : (x : Sight) → sight_of (observe v) ≡ some x → (x.cell < length v.domains) × (counts_at v x.cell ≡ true)
+  pub sight-counts : (x : Sight) → sight_of (observe v) ≡ Some x → (x.cell < length v.domains) × (counts_at v x.cell ≡ true)
   unfolding sight_of
   sight-counts x = go (observe v) (λ c e is. let h = observed-seen v is in (h.inside, h.counts))
     where
-      go : (o : Observed) → ((c : ℕ) (e : Float) → o ≡ Cell c e → (c < length v.domains) × (counts_at v c ≡ true)) → sight_of o ≡ some x
+      go : (o : Observed) → ((c : ℕ) (e : Float) → o ≡ Some (sight c e) → (c < length v.domains) × (counts_at v c ≡ true)) → sight_of o ≡ Some x
           → (x.cell < length v.domains) × (counts_at v x.cell ≡ true)
-      go (Cell c e) f q = let z : c ≡ x.cell = ap (λ (y : Sight). y.cell) (some-injective (record { cell = c; entropy = e }) x q) in rw (← z) (f c e refl)
-      go Nothing f q = absurd (none-ne-some x q)
+      go (Some y) f q = let z : y.cell ≡ x.cell = ap (λ (z : Sight). z.cell) (same_Some y x q) in rw (← z) (f y.cell y.entropy refl)
+      go None f q = absurd (none-some x q)
 
   -- where none is named no note counts
-  pub sight_none : sight_of (observe v) ≡ none → (c : ℕ) → c < length v.domains → counts_at v c ≡ false
+  pub sight_none : sight_of (observe v) ≡ None → (c : ℕ) → c < length v.domains → counts_at v c ≡ false
   unfolding sight_of
   sight_none = go (observe v) (λ is. nothing-counts v is)
     where
-      go : (o : Observed) → (o ≡ Nothing → (c : ℕ) → c < length v.domains → counts_at v c ≡ false) → sight_of o ≡ none → (c : ℕ) → c < length v.domains → counts_at v c ≡ false
-      go (Cell c e) f q = absurd (none-ne-some (record { cell = c; entropy = e }) (sym q))
-      go Nothing f q = f refl
+      go : (o : Observed) → (o ≡ None → (c : ℕ) → c < length v.domains → counts_at v c ≡ false) → sight_of o ≡ None → (c : ℕ) → c < length v.domains → counts_at v c ≡ false
+      go (Some y) f q = absurd (none-some y (sym q))
+      go None f q = f refl
 
 -- ---- what a turn does
 
@@ -55,8 +55,8 @@ module _ (i : Given) (words : List ℕ) (used : ℕ) (s : State Beside) where
   -- what the number of an end says of the state: Decided (0), Undecided (1), Paused (2), Contradiction (3)
   abbrev pub Says : ℕ → Type 0
   Says zero = (s.empty ≡ false) × (decided s.domains ≡ true)
-  Says (suc zero) = (s.empty ≡ false) × (sighted i s ≡ none) × (decided s.domains ≡ false)
-  Says (suc (suc zero)) = (s.empty ≡ false) × ((x : Sight) × (sighted i s ≡ some x)) × (length words ≤ used)
+  Says (suc zero) = (s.empty ≡ false) × (sighted i s ≡ None) × (decided s.domains ≡ false)
+  Says (suc (suc zero)) = (s.empty ≡ false) × ((x : Sight) × (sighted i s ≡ Some x)) × (length words ≤ used)
   Says (suc (suc (suc zero))) = s.empty ≡ true
   Says (suc (suc (suc (suc n)))) = ⊥
 
@@ -91,11 +91,11 @@ module _ (i : Given) (words : List ℕ) (used : ℕ) (s : State Beside) where
   over-empty e = record { says = e; spent = refl; written = rw e }
 
   -- what a draw comes to, at the cell that is sighted
-  module _ (x : Sight) (e : s.empty ≡ false) (q : sighted i s ≡ some x) where
+  module _ (x : Sight) (e : s.empty ≡ false) (q : sighted i s ≡ Some x) where
     abbrev word : ℕ
     word = get_or s.domains x.cell 0
 
-    chosen_by : (d : Draw) → draw words used (weight_sum i.weights word) ≡ some d → Chosen d.used (chosen i x.cell (taken i.weights word d.number) s)
+    chosen_by : (d : Draw) → draw words used (weight_sum i.weights word) ≡ Some d → Chosen d.used (chosen i x.cell (taken i.weights word d.number) s)
     unfolding sighted notes_of chosen turned_off seen_off drawn_off other_than
     chosen_by d z =
         let (inside, counting) = sight-counts (notes_of i s) x q in
@@ -117,10 +117,10 @@ module _ (i : Given) (words : List ℕ) (used : ℕ) (s : State Beside) where
 
     turned-draw : (o : Option Draw) → draw words used (weight_sum i.weights word) ≡ o → Turned (drawn i used s x.cell o)
     unfolding drawn
-    turned-draw none z = ends (over-whole 2 e (e, (x, q), draw_none words used (weight_sum i.weights word) z))
-    turned-draw (some d) z = goes (chosen_by d z)
+    turned-draw None z = ends (over-whole 2 e (e, (x, q), draw_none words used (weight_sum i.weights word) z))
+    turned-draw (Some d) z = goes (chosen_by d z)
 
-  over-still : s.empty ≡ false → sighted i s ≡ none → Over (still used s)
+  over-still : s.empty ≡ false → sighted i s ≡ None → Over (still used s)
   unfolding still
   over-still e q = go (decided s.domains) refl
     where
@@ -130,8 +130,8 @@ module _ (i : Given) (words : List ℕ) (used : ℕ) (s : State Beside) where
 
   turned-sight : (o : Option Sight) → s.empty ≡ false → sighted i s ≡ o → Turned (seen i words used s o)
   unfolding seen
-  turned-sight none e q = ends (over-still e q)
-  turned-sight (some x) e q = turned-draw x e q (draw words used (weight_sum i.weights (get_or s.domains x.cell 0))) refl
+  turned-sight None e q = ends (over-still e q)
+  turned-sight (Some x) e q = turned-draw x e q (draw words used (weight_sum i.weights (get_or s.domains x.cell 0))) refl
 
   -- what it does
   pub turned : Turned (turn i words used s)

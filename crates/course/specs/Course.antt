@@ -1,9 +1,8 @@
 -- The course of a run: the states that it reaches, by how many choices and with how many words used, what was asked to go until then, all its states
 -- in order, and the state where it ends.
 -- Follows docs/RULES.md, "Run". Assumes nothing.
-use Rattle.std.specs.Prelude.{Bool, ◌≡◌, ℕ, zero, suc, ◌+◌, length, get_or}
+use Rattle.std.specs.Prelude.{Bool, ◌≡◌, ℕ, zero, suc, ◌+◌, length, get_or, Option, None, Some}
 use mathlib.Core.List.{List, ◌∷◌, ◌++◌, []}
-use Rattle.std.proofs.Math.Option.{Option, none, some}
 use Rattle.adjacency.specs.Accepted.{Accepted}
 use Rattle.adjacency.specs.Weights.{Weighed, weight_sum, mask}
 use Rattle.grid.specs.Grid.{cells}
@@ -13,7 +12,8 @@ use Rattle.consistency.specs.Start.{others}
 use Rattle.consistency.specs.Parts.{removed_all}
 use Rattle.notes.specs.Beside.{Beside}
 use Rattle.forbids.specs.declared.Forbid.{Forbid}
-use Rattle.choice.specs.Observer.{Sight, valid, note_at}
+use Rattle.choice.specs.declared.inner.Sight.{Sight}
+use Rattle.choice.specs.Observer.{valid, note_at}
 use Rattle.choice.specs.Choice.{Draw, draw, taken}
 use Rattle.forbids.specs.Forbids.{Placed}
 use Rattle.course.specs.Run.{Given, begun, asked, laid_all, notes_of, sighted, Ended, Turn, turn}
@@ -37,21 +37,21 @@ wanted P (f ∷ fs) = asked P f ++ wanted P fs
 -- all that a choice asks to go: every pattern of the cell but the one that it takes
 unfoldable pub other_than : ℕ → ℕ → Option ℕ → List Removal
 unfolding others
-other_than P c none = []
-other_than P c (some p) = others P c p
+other_than P c None = []
+other_than P c (Some p) = others P c p
 
 -- of a draw at cell c
 unfoldable pub drawn_off : Given → State Beside → ℕ → Option Draw → List Removal
 unfolding other_than taken
-drawn_off i s c none = []
-drawn_off i s c (some d) = other_than i.table.count c (taken i.weights (get_or s.domains c 0) d.number)
+drawn_off i s c None = []
+drawn_off i s c (Some d) = other_than i.table.count c (taken i.weights (get_or s.domains c 0) d.number)
 
 module _ (i : Given) (words : List ℕ) where
   -- of an observation
   unfoldable pub seen_off : ℕ → State Beside → Option Sight → List Removal
   unfolding drawn_off draw weight_sum
-  seen_off used s none = []
-  seen_off used s (some v) = drawn_off i s v.cell (draw words used (weight_sum i.weights (get_or s.domains v.cell 0)))
+  seen_off used s None = []
+  seen_off used s (Some v) = drawn_off i s v.cell (draw words used (weight_sum i.weights (get_or s.domains v.cell 0)))
 
   -- of the turn at a state
   unfoldable pub turned_off : ℕ → State Beside → List Removal

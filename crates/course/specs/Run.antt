@@ -1,8 +1,7 @@
 -- A run, step by step: full domains, the forbids, then observe and choose until it ends; `run_of` is the whole of it.
 -- Follows docs/RULES.md, "Run". Assumes nothing.
-use Rattle.std.specs.Prelude.{Bool, List, [], ◌∷◌, ◌++◌, leb, eqb, Float, length, get_or, replicate}
+use Rattle.std.specs.Prelude.{Bool, List, [], ◌∷◌, ◌++◌, leb, eqb, Float, length, get_or, replicate, Option, None, Some}
 use Rattle.std.proofs.Math.Bool.{cond}
-use Rattle.std.proofs.Math.Option.{Option, none, some}
 use Prim.Native.Nat.{ℕ, zero, suc, ◌+◌}
 use Rattle.std.specs.Float.{binary32}
 use Rattle.std.specs.Float.Ieee.{of_bits}
@@ -16,7 +15,8 @@ use Rattle.consistency.specs.Worklist.{Removal, removal, State, forbids, propaga
 use Rattle.consistency.specs.Start.{start, others}
 use Rattle.notes.specs.Beside.{Beside, beside, lessened, kept, unmarked}
 use Rattle.forbids.specs.declared.Forbid.{Forbid}
-use Rattle.choice.specs.Observer.{Notes, notes_in, observe, Sight, sight_of}
+use Rattle.choice.specs.declared.inner.Sight.{Sight}
+use Rattle.choice.specs.Observer.{Notes, notes_in, observe, sight_of}
 use Rattle.choice.specs.Choice.{Draw, draw, taken}
 
 -- what a run is given, but for its forbids and its words
@@ -111,8 +111,8 @@ still used s = ended (cond (decided s.domains) 0 1) used s.domains
 -- the pattern that the number takes at a cell stays, the others go
 unfoldable pub chosen : Given → ℕ → Option ℕ → State Beside → State Beside
 unfolding reduced_by others
-chosen i c none s = s
-chosen i c (some p) s = reduced_by i (others i.table.count c p) s
+chosen i c None s = s
+chosen i c (Some p) s = reduced_by i (others i.table.count c p) s
 
 -- what one turn comes to: the run is over, or it goes on with so many words used
 pub data Turn : Type 0 where
@@ -122,16 +122,16 @@ pub data Turn : Type 0 where
 -- a cell c is observed and a draw is made: without a word the run is Paused (2)
 unfoldable pub drawn : Given → ℕ → State Beside → ℕ → Option Draw → Turn
 unfolding chosen taken
-drawn i used s c none = over (ended 2 used s.domains)
-drawn i used s c (some d) = on d.used (chosen i c (taken i.weights (get_or s.domains c 0) d.number) s)
+drawn i used s c None = over (ended 2 used s.domains)
+drawn i used s c (Some d) = on d.used (chosen i c (taken i.weights (get_or s.domains c 0) d.number) s)
 
 -- over what is given and the words
 module _ (i : Given) (words : List ℕ) where
   -- the observation, or nothing to observe
   unfoldable pub seen : ℕ → State Beside → Option Sight → Turn
   unfolding still drawn draw weight_sum
-  seen used s none = over (still used s)
-  seen used s (some v) = drawn i used s v.cell (draw words used (weight_sum i.weights (get_or s.domains v.cell 0)))
+  seen used s None = over (still used s)
+  seen used s (Some v) = drawn i used s v.cell (draw words used (weight_sum i.weights (get_or s.domains v.cell 0)))
 
   -- one turn; an empty cell is a Contradiction (3), and every domain is written as zero
   unfoldable pub turn : ℕ → State Beside → Turn

@@ -19,11 +19,10 @@ use Rattle.layout.specs.Sheet.{Sheet}
 use Rattle.layout.specs.Tables.{table_of}
 use Rattle.layout.specs.Reading.{well_formed, sheet_in}
 use Rattle.sheet.specs.declared.Measures.{Measures}
-use Rattle.sheet.specs.declared.SizesAnswer.{SizesAnswer}
+use Rattle.std.specs.Prelude.{Result, Err}
 use Rattle.sheet.specs.Called.{measured, sizes_told, sizes_asked}
 use Rattle.faults.specs.Places.{first_failing, list_fits, list_agrees, answers_in, list_place, unanswered, pair_place, judged, forbid_fits, forbid_place, place_at, sheet_place, place_in}
 use Rattle.sheet.proofs.CalledLaws.{sizes-told}
-use Rattle.sheet.specs.declared.SizesAnswer.TheVariants as sizes
 use Rattle.faults.specs.declared.inner.Place.TheVariants as at
 
 -- ---- lists
@@ -148,7 +147,7 @@ module _ (n : ℕ) (b : List ℕ) where
   told (refused k) = false
 
   -- bytes that are no sheet
-  pub place-unread : {a : SizesAnswer} {r : Refusal} → a ≡ sizes.Refused r → sizes_told a ≡ sizes_asked b → at.Nowhere ≡ place_in n b
+  pub place-unread : {a : Result Measures Refusal} {r : Refusal} → a ≡ Err r → sizes_told a ≡ sizes_asked b → at.Nowhere ≡ place_in n b
   unfolding place_in sizes_told told
   place-unread is f = go (well_formed b) refl
     where

@@ -4,8 +4,10 @@ ghost use Rattle.layout.specs.Reading.{count_in, well_formed, sheet_in};
 ghost use Rattle.sheet.specs.Called.{measured};
 ghost use Rattle.faults.specs.Places.{sheet_place, place_in};
 
+use adjacency::inner::Table;
+use grid::Grid;
 use layout::inner::filling::fill;
-use sheet::{Measures, SizesAnswer};
+use sheet::Measures;
 
 mod search;
 
@@ -37,15 +39,17 @@ fn sheet_place(sheet: &[u8], m: Measures, number: u32) -> Place
     let starts = 4 * m.count + 1;
     let last = m.ids;
     let numbers = 3 * m.forbids;
-    search::place_at(
-        number,
-        m.count,
-        &offsets[..starts],
-        &ids[..last],
-        m.width,
-        m.height,
-        &forbids[..numbers],
-    )
+    let table = Table {
+        count: m.count,
+        offsets: &offsets[..starts],
+        ids: &ids[..last],
+    };
+    let grid = Grid {
+        width: m.width,
+        height: m.height,
+        mode: m.mode,
+    };
+    search::place_at(number, &table, grid, &forbids[..numbers])
 }
 
 // Where the sheet is wrong that was refused with this number.
@@ -53,8 +57,8 @@ pub fn place_in(sheet: &[u8], number: u32) -> Place
     ensures { result ≡ place_in number sheet.now }
 {
     match sheet::sizes(sheet) {
-        SizesAnswer::Refused(_) => Place::Nowhere,
-        SizesAnswer::Sheet(m) => {
+        Err(_) => Place::Nowhere,
+        Ok(m) => {
             if 64 < m.count {
                 return Place::Nowhere;
             }

@@ -1,16 +1,17 @@
 -- Laws of forbids: what the refusals leave, one after the other, and the first refusal of one record. Follows docs/RULES.md, "Refusals".
 use mathlib.Core.Bool.{Bool, cond}
 use mathlib.Core.List.{List, ◌∷◌, ◌++◌, []}
-use mathlib.Core.Path.{◌≡◌}
+use mathlib.Core.Path.{◌≡◌, sym, ap, ◌∙◌}
 use Prim.Native.Nat.{ℕ}
-use borrow.Author.Tests.{leb-false}
+use lib.Dec.{eqb}
+use borrow.Author.Tests.{leb-false, eq-eqb, ne_eqb}
 use Rattle.refusals.specs.Refusals.{first_of}
 use Rattle.adjacency.specs.Tables.{Table}
 use Rattle.adjacency.specs.Lookup.{bad_pattern}
 use Rattle.grid.specs.Grid.{Grid, cells, bad_cell}
 use Rattle.forbids.specs.declared.Forbid.{Forbid}
 use Rattle.forbids.specs.Forbids.{Placed, place_tests, forbid_tests}
-use Rattle.refusals.proofs.RefusalLaws.{Passed}
+use Rattle.refusals.proofs.RefusalLaws.{Passed, first-append, first-empty}
 use Rattle.grid.proofs.GridLaws.{inside_of}
 
 -- ---- what the refusals leave
@@ -38,3 +39,22 @@ pub place_tests-is : (P : ℕ) (g : Grid) (c p : ℕ) {cell pattern : Bool} → 
     → first_of (place_tests P g c p) ≡ cond cell 8 (cond pattern 9 0)
 unfolding place_tests first_of
 place_tests-is P g c p a b = rw (a, b)
+
+-- that of a forbid before others, which it decides where it is refused
+module _ (t : Table) (g : Grid) (f : Forbid) (fs : List Forbid) {n : ℕ} (e : n ≡ first_of (place_tests t.count g f.cell f.pattern)) where
+  first-split : first_of (forbid_tests t g (f ∷ fs)) ≡ cond (eqb n 0) (first_of (forbid_tests t g fs)) n
+  unfolding forbid_tests
+  first-split =
+      first-append (place_tests t.count g f.cell f.pattern) (forbid_tests t g fs)
+      ∙ sym (ap (λ (m : ℕ). cond (eqb m 0) (first_of (forbid_tests t g fs)) m) e)
+
+  pub refused-here : (n ≡ 0 → ⊥) → n ≡ first_of (forbid_tests t g (f ∷ fs))
+  refused-here z = sym (first-split ∙ ap (λ (b : Bool). cond b (first_of (forbid_tests t g fs)) n) (ne_eqb n 0 z))
+
+  pub passed-on : n ≡ 0 → first_of (forbid_tests t g (f ∷ fs)) ≡ first_of (forbid_tests t g fs)
+  passed-on z = first-split ∙ ap (λ (b : Bool). cond b (first_of (forbid_tests t g fs)) n) (eq-eqb n 0 z)
+
+-- of no forbids there is none
+pub none-refused : (t : Table) (g : Grid) → 0 ≡ first_of (forbid_tests t g [])
+unfolding forbid_tests
+none-refused t g = sym first-empty

@@ -2,11 +2,10 @@
 -- to what it comes to with the forbids themselves.
 -- Follows docs/RULES.md, "Refusals". Assumes nothing.
 use mathlib.Core.Bool.{Bool, cond}
-use mathlib.Core.List.{List, ◌∷◌, []}
+use mathlib.Core.List.{List, ◌∷◌, ◌++◌, []}
 use mathlib.Core.Path.{◌≡◌, refl, sym, ◌∙◌, ap}
 use Prim.Native.Nat.{ℕ, suc, ◌+◌, ◌*◌, ◌/◌, ◌%◌, ◌≤◌, ◌<◌}
 use native.Mathlib.Omega.{arith}
-use lib.Dec.{eqb}
 use lib.ListN.{length, get_or, drop, length-drop}
 use lib.Seq.{drop-drop, get_or-drop}
 use borrow.Author.Tests.{eq-eqb, ne_eqb}
@@ -15,7 +14,7 @@ use Rattle.adjacency.specs.Tables.{Table}
 use Rattle.grid.specs.Grid.{Grid}
 use Rattle.forbids.specs.declared.Forbid.{Forbid}
 use Rattle.forbids.specs.Forbids.{place_tests, forbid_tests, forbids_of, records_in}
-use Rattle.refusals.proofs.RefusalLaws.{first-append}
+use Rattle.forbids.proofs.ForbidLaws.{refused-here, passed-on}
 
 -- the forbid at place i
 abbrev pub forbid_at : List ℕ → ℕ → Forbid
@@ -33,7 +32,7 @@ forbids-front (c ∷ []) h = absurd (omega arith)
 forbids-front (c ∷ p ∷ []) h = absurd (omega arith)
 forbids-front (c ∷ p ∷ k ∷ ns) h = refl
 
-forbids-short : (ns : List ℕ) → length ns < 3 → forbids_of ns ≡ []
+pub forbids-short : (ns : List ℕ) → length ns < 3 → forbids_of ns ≡ []
 unfolding forbids_of
 forbids-short [] h = refl
 forbids-short (c ∷ []) h = refl
@@ -58,6 +57,16 @@ forbids_more ns i h =
 pub forbids_none : (ns : List ℕ) (i : ℕ) → length ns / 3 ≤ i → forbids_from ns i ≡ []
 forbids_none ns i h = forbids-short (drop (3 * i) ns) (omega (arith, length-drop (3 * i) ns))
 
+-- three numbers before others
+pub forbids-chunk : (ns f rest : List ℕ) → ns ≡ f ++ rest → length f ≡ 3
+    → forbids_of ns ≡ record { cell = get_or f 0 0; pattern = get_or f 1 0; keep = get_or f 2 0 } ∷ forbids_of rest
+unfolding forbids_of
+forbids-chunk ns [] rest e h = absurd (omega arith)
+forbids-chunk ns (c ∷ []) rest e h = absurd (omega arith)
+forbids-chunk ns (c ∷ p ∷ []) rest e h = absurd (omega arith)
+forbids-chunk ns (c ∷ p ∷ k ∷ []) rest e h = rw e
+forbids-chunk ns (c ∷ p ∷ k ∷ x ∷ l) rest e h = absurd (omega arith)
+
 -- ---- the first refusal
 
 module _ (t : Table) (g : Grid) (ns : List ℕ) where
@@ -66,18 +75,11 @@ module _ (t : Table) (g : Grid) (ns : List ℕ) where
   refusal_from i = first_of (forbid_tests t g (forbids_from ns i))
 
   module _ (i : ℕ) (h : i < length ns / 3) {n : ℕ} (e : n ≡ first_of (place_tests t.count g (get_or ns (3 * i) 0) (get_or ns (3 * i + 1) 0))) where
-    refusal-split : refusal_from i ≡ cond (eqb n 0) (refusal_from (suc i)) n
-    unfolding forbid_tests
-    refusal-split =
-        ap (λ (fs : List Forbid). first_of (forbid_tests t g fs)) (forbids_more ns i h)
-        ∙ first-append (place_tests t.count g (get_or ns (3 * i) 0) (get_or ns (3 * i + 1) 0)) (forbid_tests t g (forbids_from ns (suc i)))
-        ∙ sym (ap (λ (m : ℕ). cond (eqb m 0) (refusal_from (suc i)) m) e)
-
     pub refusal-here : (n ≡ 0 → ⊥) → n ≡ refusal_from i
-    refusal-here z = sym (refusal-split ∙ ap (λ (b : Bool). cond b (refusal_from (suc i)) n) (ne_eqb n 0 z))
+    refusal-here z = rw (forbids_more ns i h) (refused-here t g (forbid_at ns i) (forbids_from ns (suc i)) e z)
 
     pub refusal_next : n ≡ 0 → refusal_from i ≡ refusal_from (suc i)
-    refusal_next z = refusal-split ∙ ap (λ (b : Bool). cond b (refusal_from (suc i)) n) (eq-eqb n 0 z)
+    refusal_next z = rw (forbids_more ns i h) (passed-on t g (forbid_at ns i) (forbids_from ns (suc i)) e z)
 
   pub refusal-end : (i : ℕ) → length ns / 3 ≤ i → 0 ≡ refusal_from i
   unfolding forbid_tests first_of

@@ -1,21 +1,15 @@
 -- Forbids that are lent as records, one by one: the one at a place, and the first refusal from a place on; what the walks over them cite.
 -- Follows docs/RULES.md, "Refusals".
-use mathlib.Core.Bool.{Bool, true, false, not, cond}
+use mathlib.Core.Bool.{Bool, true, false, not}
 use mathlib.Core.List.{List, ◌∷◌, []}
-use mathlib.Core.Path.{◌≡◌, sym, ◌∙◌, ap, subst}
-use Prim.Native.Nat.{ℕ, zero, suc, ◌+◌, ◌≤◌, ◌<◌}
-use native.Mathlib.Numerals.{add-one}
+use mathlib.Core.Path.{◌≡◌, sym, subst}
+use Prim.Native.Nat.{ℕ, zero, suc, ◌<◌}
 use native.Mathlib.Omega.{arith}
 use lib.Dec.{eqb, T, T_not, eqb→eq}
-use lib.ListN.{length, get_or, drop, drop_of_length-le}
-use lib.Seq.{drop-cons}
-use borrow.Author.Tests.{eq-eqb, ne_eqb}
-use Rattle.refusals.specs.Refusals.{first_of}
-use Rattle.adjacency.specs.Tables.{table}
-use Rattle.grid.specs.Grid.{grid}
+use lib.ListN.{length, get_or}
+use borrow.Author.Tests.{eq-eqb}
 use Rattle.forbids.specs.declared.Forbid.{Forbid}
-use Rattle.forbids.specs.Forbids.{Placed, place_tests, forbid_tests}
-use Rattle.refusals.proofs.RefusalLaws.{first-append, first-empty}
+use Rattle.forbids.specs.Forbids.{Placed}
 
 -- ---- a number that is tested
 
@@ -43,40 +37,3 @@ pub placed_at : (P n : ℕ) (fs : List Forbid) (k : ℕ) → Placed P n fs → k
 placed_at P n [] k h l = absurd (omega arith)
 placed_at P n (f ∷ fs) zero h l = (h.0, h.1)
 placed_at P n (f ∷ fs) (suc k) h l = placed_at P n fs k h.2 (omega arith)
-
--- ---- the first refusal
-
-module _ (count width height : ℕ) (fs : List Forbid) where
-  -- the number of the first refusal of the forbids from place k on
-  abbrev from : List ℕ → List ℕ → ℕ → ℕ → ℕ
-  from offsets ids mode k = first_of (forbid_tests (table count offsets ids) (grid width height mode) (drop k fs))
-
-  -- r is that, whatever the rest of the table and the mode
-  abbrev pub First : ℕ → ℕ → Type 0
-  First k r = (offsets ids : List ℕ) (mode : ℕ) → r ≡ from offsets ids mode k
-
-  -- r is the number of the refusal of the forbid at place k, whatever the mode
-  abbrev pub Judged : ℕ → ℕ → Type 0
-  Judged k r = (mode : ℕ) → r ≡ first_of (place_tests count (grid width height mode) (lent_at fs k).cell (lent_at fs k).pattern)
-
-  -- that of the forbid at place k, or of those after it
-  from-split : (k : ℕ) → k < length fs → (r : ℕ) → Judged k r → (offsets ids : List ℕ) (mode : ℕ) → from offsets ids mode k ≡ cond (eqb r 0) (from offsets ids mode (suc k)) r
-  unfolding forbid_tests
-  from-split k l r h offsets ids mode =
-      ap (λ (gs : List Forbid). first_of (forbid_tests (table count offsets ids) (grid width height mode) gs)) (drop-cons fs k no_forbid l)
-      ∙ first-append (place_tests count (grid width height mode) (lent_at fs k).cell (lent_at fs k).pattern) (forbid_tests (table count offsets ids) (grid width height mode) (drop (suc k) fs))
-      ∙ sym (ap (λ (n : ℕ). cond (eqb n 0) (from offsets ids mode (suc k)) n) (h mode))
-
-  -- a forbid that is refused decides
-  pub first-here : (k : ℕ) → k < length fs → (r : ℕ) → Judged k r → (r ≡ 0 → ⊥) → First k r
-  first-here k l r h z offsets ids mode = sym (from-split k l r h offsets ids mode ∙ ap (λ (b : Bool). cond b (from offsets ids mode (suc k)) r) (ne_eqb r 0 z))
-
-  -- one that is not is passed
-  pub first_next : (k : ℕ) → k < length fs → (r : ℕ) → Judged k r → r ≡ 0 → (s : ℕ) → First (k + 1) s → First k s
-  first_next k l r h z s g offsets ids mode =
-      subst (λ (j : ℕ). First j s) (add-one k) g offsets ids mode ∙ sym (from-split k l r h offsets ids mode ∙ ap (λ (b : Bool). cond b (from offsets ids mode (suc k)) r) (eq-eqb r 0 z))
-
-  -- past the end none is refused
-  pub first-end : (k : ℕ) → length fs ≤ k → First k 0
-  unfolding forbid_tests
-  first-end k l offsets ids mode = sym (ap (λ (gs : List Forbid). first_of (forbid_tests (table count offsets ids) (grid width height mode) gs)) (drop_of_length-le fs l) ∙ first-empty)

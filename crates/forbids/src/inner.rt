@@ -1,36 +1,32 @@
 // The refusals of forbids, of records and of numbers three for each, for the crates above. Follows docs/RULES.md, "Refusals".
 ghost use Rattle.std.specs.Prelude.{List, ◌≡◌, ℕ};
-ghost use Rattle.refusals.specs.Refusals.{first_of};
+ghost use Rattle.refusals.specs.Refusals.{number_of, first_of};
 ghost use Rattle.adjacency.specs.Tables.{table};
-ghost use Rattle.grid.specs.Grid.{grid, bad_cell};
+ghost use Rattle.grid.specs.Grid.{bad_cell};
 ghost use Rattle.forbids.specs.Forbids.{place_tests, forbid_tests, forbids_of, records_in};
 
 use crate::Forbid;
+use grid::Grid;
+use refusals::Refusal;
 
 // Whether a cell is past the grid; the cells are not counted, so that no product can wrap.
-fn past_grid(cell: usize, width: usize, height: usize) -> bool
-    ensures { (mode : ℕ) → result ≡ bad_cell (grid width height mode) cell }
+fn past_grid(cell: usize, grid: Grid) -> bool
+    ensures { result ≡ bad_cell grid cell }
 {
-    if width == 0 {
-        return true;
-    }
-    if height <= cell / width {
-        return true;
-    }
-    false
+    grid.width == 0 || grid.height <= cell / grid.width
 }
 
-// The number of one forbid's refusal: 8 for its cell, 9 for its pattern, 0 for none.
-pub fn judge(cell: u32, pattern: u32, count: usize, width: usize, height: usize) -> u32
-    ensures { (mode : ℕ) → result ≡ first_of (place_tests count (grid width height mode) cell pattern) }
+// Whether one forbid is refused: for its cell, or else for its pattern.
+pub fn judge(cell: u32, pattern: u32, count: usize, grid: Grid) -> Result<(), Refusal>
+    ensures { number_of result ≡ first_of (place_tests count grid cell pattern) }
 {
-    if past_grid(cell as usize, width, height) {
-        return 8;
+    if past_grid(cell as usize, grid) {
+        return Err(Refusal::BadCell);
     }
     if count <= pattern as usize {
-        return 9;
+        return Err(Refusal::BadPattern);
     }
-    0
+    Ok(())
 }
 
 // How many forbids are lent as numbers, three for each; one too many where they are not three for each.
@@ -43,35 +39,22 @@ pub fn records_in(forbids: &[u32]) -> usize
     4097
 }
 
-// The number of the first refusal of forbids that are lent as numbers, 0 for none.
-pub fn judge_all(forbids: &[u32], count: usize, width: usize, height: usize) -> u32
-    ensures { (offsets ids : List ℕ) (mode : ℕ)
-        → result ≡ first_of (forbid_tests (table count offsets ids) (grid width height mode) (forbids_of forbids.now)) }
+// The first refusal of forbids that are lent as numbers.
+pub fn judge_all(forbids: &[u32], count: usize, grid: Grid) -> Result<(), Refusal>
+    ensures { (offsets ids : List ℕ) → number_of result ≡ first_of (forbid_tests (table count offsets ids) grid (forbids_of forbids.now)) }
 {
-    let mut i = 0;
-    while i < forbids.len() / 3 {
-        let refusal = judge(forbids[3 * i], forbids[3 * i + 1], count, width, height);
-        if refusal != 0 {
-            return refusal;
-        }
-        i += 1;
+    for forbid in forbids.chunks_exact(3) {
+        judge(forbid[0], forbid[1], count, grid)?;
     }
-    0
+    Ok(())
 }
 
-// The number of the first refusal of the forbids, 0 for none.
-pub fn check_all(forbids: &[Forbid], count: usize, width: usize, height: usize) -> u32
-    ensures { (offsets ids : List ℕ) (mode : ℕ)
-        → result ≡ first_of (forbid_tests (table count offsets ids) (grid width height mode) forbids.now) }
+// The first refusal of the forbids.
+pub fn check_all(forbids: &[Forbid], count: usize, grid: Grid) -> Result<(), Refusal>
+    ensures { (offsets ids : List ℕ) → number_of result ≡ first_of (forbid_tests (table count offsets ids) grid forbids.now) }
 {
-    let mut i = 0;
-    while i < forbids.len() {
-        let f = forbids[i];
-        let code = judge(f.cell, f.pattern, count, width, height);
-        if code != 0 {
-            return code;
-        }
-        i += 1;
+    for forbid in forbids {
+        judge(forbid.cell, forbid.pattern, count, grid)?;
     }
-    0
+    Ok(())
 }

@@ -1,14 +1,12 @@
 -- The grid: width, height and wrap mode, where 1 joins east and west, 2 north and south, 3 both; cells are numbered row by row. Follows docs/RULES.md, "Grid".
 -- Assumes nothing.
-use Rattle.std.specs.Prelude.{Bool, cond, ◌||◌, ℕ, zero, suc, ◌+◌, ◌-◌, ◌*◌, ◌/◌, ◌%◌, ◌≤◌, leb, ltb, eqb, ℤ, pos, negsuc}
-use Rattle.std.proofs.Math.Option.{Option, none, some}
+use Rattle.std.specs.Prelude.{Bool, cond, ◌||◌, ℕ, zero, suc, ◌+◌, ◌-◌, ◌*◌, ◌/◌, ◌%◌, ◌≤◌, leb, ltb, eqb, ℤ, pos, negsuc, Option, None, Some}
 use Rattle.directions.specs.Directions.{step_x, step_y}
+use Rattle.grid.specs.declared.Grid as lent
 
 -- a grid as it is lent, accepted or not
-pub record Grid : Type 0 where
-  pub width : ℕ
-  pub height : ℕ
-  pub mode : ℕ
+abbrev pub Grid : Type 0
+Grid = lent.Grid
 
 -- the grid of a width, a height and a mode
 abbrev pub grid : ℕ → ℕ → ℕ → Grid
@@ -29,23 +27,23 @@ wraps_y g = leb 2 g.mode
 
 -- past an edge: the place at the other end where the side wraps, none where it does not
 unfoldable pub round : Bool → ℕ → Option ℕ
-round wraps i = cond wraps (some i) none
+round wraps i = cond wraps (Some i) None
 
 -- one step on along a side of n places
 unfoldable pub after : Bool → ℕ → ℕ → Option ℕ
 unfolding round
-after wraps n i = cond (ltb (suc i) n) (some (suc i)) (round wraps 0)
+after wraps n i = cond (ltb (suc i) n) (Some (suc i)) (round wraps 0)
 
 -- one step back along a side of n places
 unfoldable pub before : Bool → ℕ → ℕ → Option ℕ
 unfolding round
 before wraps n zero = round wraps (n - 1)
-before wraps n (suc i) = some i
+before wraps n (suc i) = Some i
 
 -- the place that a step of -1, 0 or 1 leads to, none past an edge
 unfoldable pub along : Bool → ℕ → ℕ → ℤ → Option ℕ
 unfolding after before
-along wraps n i (pos zero) = some i
+along wraps n i (pos zero) = Some i
 along wraps n i (pos (suc k)) = after wraps n i
 along wraps n i (negsuc k) = before wraps n i
 
@@ -60,9 +58,9 @@ row g c d = along (wraps_y g) g.height (c / g.width) (step_y d)
 
 -- the cell at a column and a row, none past an edge
 abbrev pub at : ℕ → Option ℕ → Option ℕ → Option ℕ
-at width (some x) (some y) = some (y * width + x)
-at width (some x) none = none
-at width none y = none
+at width (Some x) (Some y) = Some (y * width + x)
+at width (Some x) None = None
+at width None y = None
 
 -- the cell in direction d of c, or none at an edge that does not wrap
 unfoldable pub neighbour : Grid → ℕ → ℕ → Option ℕ

@@ -11,41 +11,40 @@ use refusals::Refusal;
 
 pub mod inner;
 
-// What lies in a direction of a cell.
+// A grid as it is lent, accepted or not. The mode is a number, as docs/RULES.md and the C interface have it: any number may be lent, and a check refuses it.
 #[derive(Clone, Copy)]
-pub enum Near {
-    Cell(usize),
-    Edge,
+pub struct Grid {
+    pub width: usize,
+    pub height: usize,
+    pub mode: usize,
 }
 
-// The same, or why it cannot be said.
-#[derive(Clone, Copy)]
-pub enum NearAnswer {
-    Found(Near),
-    Refused(Refusal),
-}
-
-// The neighbour of a cell in a direction; refused are, in this order, the size, the mode, the direction and the cell.
+// The neighbour of a cell in a direction, nothing at an edge; refused are, in this order, the size, the mode, the direction and the cell.
 pub fn neighbour(
     width: usize,
     height: usize,
     mode: usize,
     cell: usize,
     direction: usize,
-) -> NearAnswer
+) -> Result<Option<usize>, Refusal>
     ensures { near_of result ≡ neighbour_asked (grid width height mode) cell direction }
 {
-    if inner::bad_size(width, height) {
-        return NearAnswer::Refused(Refusal::BadSize);
+    let grid = Grid {
+        width,
+        height,
+        mode,
+    };
+    if grid.bad_size() {
+        return Err(Refusal::BadSize);
     }
-    if inner::bad_wrap(mode) {
-        return NearAnswer::Refused(Refusal::BadWrap);
+    if grid.bad_wrap() {
+        return Err(Refusal::BadWrap);
     }
     if 3 < direction {
-        return NearAnswer::Refused(Refusal::BadDirection);
+        return Err(Refusal::BadDirection);
     }
-    if height * width <= cell {
-        return NearAnswer::Refused(Refusal::BadCell);
+    if grid.cells() <= cell {
+        return Err(Refusal::BadCell);
     }
-    NearAnswer::Found(inner::neighbour_of(width, height, mode, cell, direction))
+    Ok(grid.neighbour_of(cell, direction))
 }

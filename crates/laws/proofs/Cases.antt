@@ -1,7 +1,7 @@
 -- The worked cases A to K as one table under one claim, by computing: what is called, and what it must come to with every lent slice.
 -- Follows docs/RULES.md, "Run". Assumes nothing.
 use mathlib.Core.List.{List, [], ◌∷◌, map}
-use mathlib.Core.Option.{some}
+use Rattle.std.specs.Prelude.{Some}
 use mathlib.Core.Path.{◌≡◌, refl}
 use Prim.Native.Nat.{ℕ, ◌+◌, ◌*◌}
 use lib.Ieee.{Float, binary32, of_bits}
@@ -111,7 +111,7 @@ cases =
     ∷ []
 
 -- every case of the table holds, and K asked apart from a run too
-pub cases-hold : Hold cases × (map (choice_of (2 ∷ 3 ∷ []) 3) (1 ∷ 2 ∷ 4 ∷ 5 ∷ []) ≡ map some (0 ∷ 1 ∷ 1 ∷ 0 ∷ []))
+pub cases-hold : Hold cases × (map (choice_of (2 ∷ 3 ∷ []) 3) (1 ∷ 2 ∷ 4 ∷ 5 ∷ []) ≡ map Some (0 ∷ 1 ∷ 1 ∷ 0 ∷ []))
 unfolding cases found stated choice_of
 cases-hold = (refl, refl)
 

@@ -3,7 +3,7 @@
 use mathlib.Core.Bool.{true, false}
 use mathlib.Core.List.{List, ◌++◌}
 use mathlib.Core.Logic.{◌↔◌}
-use mathlib.Core.Option.{some}
+use Rattle.std.specs.Prelude.{Some}
 use mathlib.Core.Path.{◌≡◌, sym, ap, ◌∙◌, subst}
 use Prim.Native.Nat.{ℕ, suc, ◌+◌, ◌-◌, ◌≤◌, ◌<◌}
 use native.Mathlib.Omega.{arith}
@@ -97,7 +97,7 @@ module _ (i : Given) (fs : List Forbid) (L : Lawful i fs) (words : List ℕ) whe
   run-decided = end-decided i fs L words (run_final i fs L words)
 
   -- and then no list is violated
-  pub run_solved : (run_of i fs words).end ≡ 0 → (c p d n q : ℕ) → d < 4 → neighbour i.grid c d ≡ some n → possible (run_of i fs words).domains c p ≡ 1
+  pub run_solved : (run_of i fs words).end ≡ 0 → (c p d n q : ℕ) → d < 4 → neighbour i.grid c d ≡ Some n → possible (run_of i fs words).domains c p ≡ 1
       → possible (run_of i fs words).domains n q ≡ 1 → InList i.table p d q
   run_solved z = (decided-means i fs L words (run_final i fs L words) z).1
 

@@ -2,7 +2,6 @@
 -- noise word, then the least number, of the cells whose notes count. Follows docs/RULES.md, "Run" and "Entropy". Assumes nothing.
 use mathlib.Core.Bool.{true}
 use mathlib.Core.List.{List}
-use mathlib.Core.Option.{some, some-injective, none-ne-some}
 use mathlib.Core.Path.{◌≡◌, refl, ap}
 use Prim.Native.Nat.{ℕ, ◌≤◌, ◌<◌}
 use native.Mathlib.Omega.{arith}
@@ -12,9 +11,10 @@ use Rattle.order.specs.Numbers.{Numbers}
 use Rattle.grid.specs.Grid.{cells}
 use Rattle.consistency.specs.Worklist.{State}
 use Rattle.notes.specs.Beside.{Beside}
-use Rattle.choice.specs.declared.inner.Observed.{Observed}
-use Rattle.choice.specs.declared.inner.Observed.TheVariants.{Cell, Nothing}
-use Rattle.choice.specs.Observer.{entropy_at, counts_at, observe, Sight, sight_of}
+use Rattle.std.specs.Prelude.{Some, None}
+use Rattle.std.proofs.lemmas.Option.{same_Some, none-some}
+use Rattle.choice.specs.declared.inner.Sight.{Sight}
+use Rattle.choice.specs.Observer.{entropy_at, counts_at, observe, sight_of, Observed, sight}
 use Rattle.forbids.specs.declared.Forbid.{Forbid}
 use Rattle.course.specs.Run.{Given, notes_of, sighted}
 use Rattle.course.specs.Course.{Lawful, Reached}
@@ -41,28 +41,28 @@ module _ (i : Given) (fs : List Forbid) (L : Lawful i fs) where
     unfolding notes_of
     noted-cells = (reached-stands i fs L r).settled.safe.fit.sized
 
-    least : (c : ℕ) (e : Float) → observe (notes_of i s) ≡ Cell c e → (j : ℕ) → j < cells i.grid → Yields (notes_of i s) c j
+    least : (c : ℕ) (e : Float) → observe (notes_of i s) ≡ Some (sight c e) → (j : ℕ) → j < cells i.grid → Yields (notes_of i s) c j
     least c e is j h = observed-least (notes_of i s) is noted-numbers noted-each j (omega (arith, h, noted-cells))
 
     -- what a turn observes: a cell whose note counts, with its own entropy, to which every other cell gives way
-    pub sighted-least : (x : Sight) → sighted i s ≡ some x
+    pub sighted-least : (x : Sight) → sighted i s ≡ Some x
         → Seen (notes_of i s) x.cell x.entropy × ((j : ℕ) → j < cells i.grid → Yields (notes_of i s) x.cell j)
     unfolding sighted sight_of
     sighted-least x = go (observe (notes_of i s)) (λ c e is. (observed-seen (notes_of i s) is, least c e is))
       where
         go : (o : Observed)
-            → ((c : ℕ) (e : Float) → o ≡ Cell c e → Seen (notes_of i s) c e × ((j : ℕ) → j < cells i.grid → Yields (notes_of i s) c j))
-            → sight_of o ≡ some x → Seen (notes_of i s) x.cell x.entropy × ((j : ℕ) → j < cells i.grid → Yields (notes_of i s) x.cell j)
-        go (Cell c e) f q =
-            let same = some-injective (record { cell = c; entropy = e }) x q in
-            let at : c ≡ x.cell = ap (λ (y : Sight). y.cell) same in
-            let of : e ≡ x.entropy = ap (λ (y : Sight). y.entropy) same in
-            rw (← at, ← of) (f c e refl)
-        go Nothing f q = absurd (none-ne-some x q)
+            → ((c : ℕ) (e : Float) → o ≡ Some (sight c e) → Seen (notes_of i s) c e × ((j : ℕ) → j < cells i.grid → Yields (notes_of i s) c j))
+            → sight_of o ≡ Some x → Seen (notes_of i s) x.cell x.entropy × ((j : ℕ) → j < cells i.grid → Yields (notes_of i s) x.cell j)
+        go (Some y) f q =
+            let same = same_Some y x q in
+            let at : y.cell ≡ x.cell = ap (λ (z : Sight). z.cell) same in
+            let of : y.entropy ≡ x.entropy = ap (λ (z : Sight). z.entropy) same in
+            rw (← at, ← of) (f y.cell y.entropy refl)
+        go None f q = absurd (none-some x q)
 
     -- and a cell to which every other gives way is what it observes
     pub least-sighted : (c : ℕ) → c < cells i.grid → counts_at (notes_of i s) c ≡ true → ((j : ℕ) → j < cells i.grid → Yields (notes_of i s) c j)
-        → sighted i s ≡ some (record { cell = c; entropy = entropy_at (notes_of i s) c })
+        → sighted i s ≡ Some (record { cell = c; entropy = entropy_at (notes_of i s) c })
     unfolding sighted sight_of
     least-sighted c h k yields =
         ap sight_of (least-observed (notes_of i s) noted-numbers noted-each c (omega (arith, h, noted-cells)) k (λ j l. yields j (omega (arith, l, noted-cells))))

@@ -2,7 +2,7 @@
 -- A contradiction counts as every cell empty. Follows docs/RULES.md, "Run". Assumes nothing.
 use mathlib.Core.Bool.{Bool, true, false, cond}
 use mathlib.Core.List.{List, ◌++◌}
-use mathlib.Core.Option.{Option, none, some}
+use Rattle.std.specs.Prelude.{Option, None, Some}
 use mathlib.Core.Path.{◌≡◌, refl, sym, ap, ◌∙◌, subst}
 use Prim.Native.Nat.{ℕ, zero, suc, ◌+◌, ◌≤◌, ◌<◌}
 use native.Mathlib.Decide.{ℕ_discrete}
@@ -14,7 +14,7 @@ use Rattle.consistency.specs.Domains.{Sub}
 use Rattle.consistency.specs.Worklist.{State}
 use Rattle.notes.specs.Beside.{Beside}
 use Rattle.forbids.specs.declared.Forbid.{Forbid}
-use Rattle.choice.specs.Observer.{Sight}
+use Rattle.choice.specs.declared.inner.Sight.{Sight}
 use Rattle.choice.specs.Choice.{Draw, draw}
 use Rattle.course.specs.Run.{Given, sighted, notes_of, Ended, ended, Turn, drawn, seen, turn, collapse, run_of}
 use Rattle.course.specs.Course.{Lawful, Reached, forbade, chose, Final}
@@ -36,15 +36,15 @@ Unpaused (Turn.on used s) = Unit {0}
 module _ (i : Given) (words more : List ℕ) (used : ℕ) (s : State Beside) where
   seen-longer : (o : Option Sight) (x : Turn) → seen i words used s o ≡ x → Unpaused x → seen i (words ++ more) used s o ≡ x
   unfolding seen drawn
-  seen-longer none x q n = q
-  seen-longer (some v) x q n = go (draw words used sum) refl q
+  seen-longer None x q n = q
+  seen-longer (Some v) x q n = go (draw words used sum) refl q
     where
       sum : ℕ
       sum = weight_sum i.weights (get_or s.domains v.cell 0)
 
       go : (o : Option Draw) → draw words used sum ≡ o → drawn i used s v.cell o ≡ x → drawn i used s v.cell (draw (words ++ more) used sum) ≡ x
-      go none z q = absurd (subst Unpaused (sym q) n refl)
-      go (some d) z q = ap (drawn i used s v.cell) (draw-longer words used sum d z more) ∙ q
+      go None z q = absurd (subst Unpaused (sym q) n refl)
+      go (Some d) z q = ap (drawn i used s v.cell) (draw-longer words used sum d z more) ∙ q
 
   -- a turn that does not pause is the same with more words
   turn-longer : (x : Turn) → turn i words used s ≡ x → Unpaused x → turn i (words ++ more) used s ≡ x

@@ -1,7 +1,7 @@
 -- Worked cases, computed from the definitions, floats by their bits: entropies asked apart, with both sides of every limit, and what a run notes.
 -- Assumes nothing.
 use mathlib.Core.List.{List, ◌∷◌, map, []}
-use mathlib.Core.Option.{Option, none, some}
+use Rattle.std.specs.Prelude.{Option, None, Some}
 use mathlib.Core.Path.{◌≡◌, refl}
 use Prim.Native.Nat.{ℕ, ◌-◌, ◌^◌}
 use lib.Ieee.{Float, binary32, add, sub, mul, div, of_int, of_bits}
@@ -23,7 +23,7 @@ abbrev asks : ℕ → List ℕ → ℕ → Asked (Option Float) → Case
 asks count weights domain told = record { count = count; weights = weights; domain = domain; told = told }
 
 abbrev bits : ℕ → Asked (Option Float)
-bits n = answer (some (of_bits binary32 n))
+bits n = answer (Some (of_bits binary32 n))
 
 unfoldable pub cases : List Case
 cases =
@@ -41,8 +41,8 @@ cases =
     ∷ asks 5 (1 ∷ 0 ∷ 1 ∷ 1 ∷ 0 ∷ []) 31 (bits 1070260237)
     ∷ asks 5 (1 ∷ 0 ∷ 1 ∷ 1 ∷ 0 ∷ []) 13 (bits 1070260237)
     -- without a weighted pattern there is none
-    ∷ asks 5 (1 ∷ 0 ∷ 1 ∷ 1 ∷ 0 ∷ []) 18 (answer none)
-    ∷ asks 3 (1 ∷ 1 ∷ 1 ∷ []) 0 (answer none)
+    ∷ asks 5 (1 ∷ 0 ∷ 1 ∷ 1 ∷ 0 ∷ []) 18 (answer None)
+    ∷ asks 3 (1 ∷ 1 ∷ 1 ∷ []) 0 (answer None)
     -- no pattern, 64 and 65
     ∷ asks 0 [] 0 (refused 3)
     ∷ asks 64 (replicate 64 16) (2 ^ 64 - 1) (bits 1086324736)

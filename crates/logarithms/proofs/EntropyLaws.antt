@@ -3,7 +3,8 @@
 -- Assumes nothing.
 use mathlib.Core.Bool.{Bool, true, false, cond}
 use mathlib.Core.List.{List}
-use mathlib.Core.Option.{none, some, some-injective, none-ne-some}
+use Rattle.std.specs.Prelude.{None, Some}
+use Rattle.std.proofs.lemmas.Option.{same_Some, none-some}
 use mathlib.Core.Path.{◌≡◌, refl, ◌∙◌, subst}
 use Prim.Native.Nat.{ℕ, zero, suc, ◌+◌, ◌≤◌, ◌<◌}
 use native.Mathlib.Omega.{arith}
@@ -61,15 +62,15 @@ less-full ws =
 -- ---- with and without a weighted pattern
 
 module _ (ws : List ℕ) (w : ℕ) where
-  pub entropy_of_none : weight_sum ws w ≡ 0 → entropy_of ws w ≡ none
+  pub entropy_of_none : weight_sum ws w ≡ 0 → entropy_of ws w ≡ None
   unfolding entropy_of entropy_if
   entropy_of_none e = rw e
 
-  pub entropy_of-some : (weight_sum ws w ≡ 0 → ⊥) → entropy_of ws w ≡ some (entropy (weight_sum ws w) (less ws w))
+  pub entropy_of-some : (weight_sum ws w ≡ 0 → ⊥) → entropy_of ws w ≡ Some (entropy (weight_sum ws w) (less ws w))
   unfolding entropy_of entropy_if
   entropy_of-some n = go (weight_sum ws w) n
     where
-      go : (s : ℕ) → (s ≡ 0 → ⊥) → entropy_if s (less ws w) ≡ some (entropy s (less ws w))
+      go : (s : ℕ) → (s ≡ 0 → ⊥) → entropy_if s (less ws w) ≡ Some (entropy s (less ws w))
       go zero n = absurd (n refl)
       go (suc s) n = refl
 
@@ -114,10 +115,10 @@ entropy-number sum x p h X =
     sub-from-finite binary32 (log_of sum) (div binary32 x (of_int binary32 (pos sum))) (log_finite sum p h)
     (div-number binary32 x (of_int binary32 (pos sum)) X (whole-positive binary32 sum p (omega arith)))
 
-pub entropy_of-number : (ws : List ℕ) (w : ℕ) (e : Float) → whole_weight ws ≤ 1024 → entropy_of ws w ≡ some e → Number e
+pub entropy_of-number : (ws : List ℕ) (w : ℕ) (e : Float) → whole_weight ws ≤ 1024 → entropy_of ws w ≡ Some e → Number e
 unfolding entropy_of entropy_if
 entropy_of-number ws w e h is = go (weight_sum ws w) (omega (arith, weight_sum-le ws w)) is
   where
-    go : (s : ℕ) → s ≤ 1024 → entropy_if s (less ws w) ≡ some e → Number e
-    go zero l is = absurd (none-ne-some e is)
-    go (suc s) l is = subst Number (some-injective _ e is) (entropy-number (suc s) (less ws w) (omega arith) l (less-number ws h w))
+    go : (s : ℕ) → s ≤ 1024 → entropy_if s (less ws w) ≡ Some e → Number e
+    go zero l is = absurd (none-some e is)
+    go (suc s) l is = subst Number (same_Some _ e is) (entropy-number (suc s) (less ws w) (omega arith) l (less-number ws h w))

@@ -1,14 +1,12 @@
 -- The entropy of a domain asked apart from a run: its refusals, and what the answer tells. Follows docs/RULES.md, "Entropy" and "Refusals".
 -- Assumes nothing.
-use Rattle.std.specs.Prelude.{List, [], ◌∷◌, ℕ, Float}
-use Rattle.std.proofs.Math.Option.{Option, none, some}
+use Rattle.std.specs.Prelude.{List, [], ◌∷◌, ℕ, Float, Result, Ok, Err, Option}
 use Rattle.words.specs.Words.{beyond}
+use Rattle.refusals.specs.declared.Refusal.{Refusal}
 use Rattle.refusals.specs.declared.Refusal.TheVariants.{BadCount, BadWeights, BadLength, BadPattern}
 use Rattle.refusals.specs.Refusals.{Test, ◌gives◌, Asked, refused, answer, number, first_of, checked}
 use Rattle.adjacency.specs.Checks.{bad_count, weights_misfit, over_weight}
 use Rattle.logarithms.specs.Entropy.{entropy_of}
-use Rattle.logarithms.specs.declared.EntropyAnswer.{EntropyAnswer}
-use Rattle.logarithms.specs.declared.EntropyAnswer.TheVariants.{Entropy, Nothing, Refused}
 
 -- the tests of a domain that is asked about: 3, 5, 4, 9
 abbrev pub domain_tests : ℕ → List ℕ → ℕ → List Test
@@ -26,8 +24,7 @@ unfolding checked bad_count weights_misfit over_weight beyond entropy_of
 entropy_asked P weights w = checked (domain_tests P weights w) (entropy_of weights w)
 
 -- the number or the entropy that an answer tells
-unfoldable pub entropy_told : EntropyAnswer → Asked (Option Float)
+unfoldable pub entropy_told : Result (Option Float) Refusal → Asked (Option Float)
 unfolding number
-entropy_told (Entropy e) = answer (some e)
-entropy_told Nothing = answer none
-entropy_told (Refused r) = refused (number r)
+entropy_told (Ok entropy) = answer entropy
+entropy_told (Err r) = refused (number r)

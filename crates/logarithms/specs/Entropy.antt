@@ -1,7 +1,6 @@
 -- Entropy in binary32, one rounding per operation. Follows docs/RULES.md, "Entropy".
 -- Assumes nothing.
-use Rattle.std.specs.Prelude.{cond, List, ℕ, zero, suc, eqb, Float, pos, length}
-use Rattle.std.proofs.Math.Option.{Option, none, some}
+use Rattle.std.specs.Prelude.{cond, List, ℕ, zero, suc, eqb, Float, pos, length, Option, None, Some}
 use Rattle.std.specs.Float.{binary32}
 use Rattle.std.specs.Float.Ieee.{add, sub, mul, div, of_int, of_bits}
 use Rattle.loops.specs.Loops.{steps}
@@ -56,8 +55,8 @@ entropy sum value = sub binary32 (log_of sum) (div binary32 value (of_int binary
 -- the entropy of a sum and a running value; none where there is no weight
 unfoldable pub entropy_if : ℕ → Float → Option Float
 unfolding entropy
-entropy_if zero value = none
-entropy_if (suc sum) value = some (entropy (suc sum) value)
+entropy_if zero value = None
+entropy_if (suc sum) value = Some (entropy (suc sum) value)
 
 -- the entropy of a word asked apart from a run
 unfoldable pub entropy_of : List ℕ → ℕ → Option Float

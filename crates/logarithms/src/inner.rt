@@ -7,7 +7,7 @@ ghost use Rattle.logarithms.specs.Entropy.{w_log_w, plus, minus, running, less, 
 ghost use Rattle.logarithms.specs.Asked.{domain_refusal};
 
 use crate::table::{FEW, LOGS};
-use refusals::{Refusal, Verdict};
+use refusals::Refusal;
 
 // ---- logarithms
 
@@ -106,20 +106,20 @@ pub fn entropy_from(logs: &[f32], sum: u32, value: f32) -> f32
 }
 
 // Whether a domain may be asked about apart from a run.
-pub fn check_domain(count: usize, weights: &[u32], domain: u64) -> Verdict
+pub fn check_domain(count: usize, weights: &[u32], domain: u64) -> Result<(), Refusal>
     ensures { number_of result ≡ domain_refusal count weights.now domain }
 {
     if adjacency::inner::bad_count(count) {
-        return Verdict::Refused(Refusal::BadCount);
+        return Err(Refusal::BadCount);
     }
     if weights.len() != count {
-        return Verdict::Refused(Refusal::BadLength);
+        return Err(Refusal::BadLength);
     }
     if adjacency::inner::over_weight(weights) {
-        return Verdict::Refused(Refusal::BadWeights);
+        return Err(Refusal::BadWeights);
     }
     if words::inner::beyond_count(domain, count) {
-        return Verdict::Refused(Refusal::BadPattern);
+        return Err(Refusal::BadPattern);
     }
-    Verdict::Accepted
+    Ok(())
 }

@@ -7,36 +7,20 @@
 ghost use Rattle.std.specs.Prelude.{◌≡◌};
 ghost use Rattle.logarithms.specs.Asked.{entropy_told, entropy_asked};
 
-use refusals::{Refusal, Verdict};
+use refusals::Refusal;
 
 pub mod inner;
 mod table;
 
-// What asking for an entropy comes to: an entropy, nothing for a domain without a weighted pattern, or the refusal.
-#[derive(Clone, Copy)]
-pub enum EntropyAnswer {
-    Entropy(f32),
-    Nothing,
-    Refused(Refusal),
-}
-
-// The entropy of a domain, asked apart from a run.
-pub fn entropy_of(count: usize, weights: &[u32], domain: u64) -> EntropyAnswer
+// The entropy of a domain, asked apart from a run, and none for a domain without a weighted pattern.
+pub fn entropy_of(count: usize, weights: &[u32], domain: u64) -> Result<Option<f32>, Refusal>
     ensures { entropy_told result ≡ entropy_asked count weights.now domain }
 {
-    match inner::check_domain(count, weights, domain) {
-        Verdict::Refused(refusal) => EntropyAnswer::Refused(refusal),
-        Verdict::Accepted => {
-            let sum = adjacency::inner::weight_sum(weights, domain);
-            if sum == 0 {
-                return EntropyAnswer::Nothing;
-            }
-            let logs = inner::logs();
-            EntropyAnswer::Entropy(inner::entropy_from(
-                &logs,
-                sum,
-                inner::less(&logs, weights, domain),
-            ))
-        }
+    inner::check_domain(count, weights, domain)?;
+    let sum = adjacency::inner::weight_sum(weights, domain);
+    if sum == 0 {
+        return Ok(None);
     }
+    let logs = inner::logs();
+    Ok(Some(inner::entropy_from(&logs, sum, inner::less(&logs, weights, domain))))
 }

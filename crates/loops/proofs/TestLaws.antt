@@ -3,7 +3,7 @@
 use mathlib.Core.Bool.{Bool, true, false, ◌&&◌, ◌||◌, false≢true}
 use mathlib.Core.List.{List, [], ◌∷◌}
 use mathlib.Core.Logic.{⊎_elim}
-use mathlib.Core.Path.{◌≡◌, refl, sym, subst}
+use mathlib.Core.Path.{◌≡◌, refl, sym, ap, subst}
 use Prim.Native.Nat.{ℕ, zero, suc, ◌+◌, ◌≤◌, ◌<◌}
 use native.Mathlib.Decide.{ℕ_discrete, le_ind}
 use native.Mathlib.Nat.{le_of_suc-le-suc, not-suc-le-zero, eq-or-lt_of_le, le_refl, le_trans, le-suc, le_antisymm}
@@ -14,6 +14,7 @@ use lib.Ieee.Fits.{and_i, and_l, and_r}
 use lib.ListN.{length, get_or, drop, drop_of_length-le}
 use lib.Seq.{drop-cons}
 use borrow.Author.Tests.{eq-eqb, ne_eqb}
+use Rattle.std.specs.List.{list_any}
 use Rattle.loops.specs.Tests.{all_to, every, elem}
 
 -- ---- Bools and types
@@ -131,6 +132,12 @@ every_of f (y ∷ l) h = and_i (f y) (every f l) (h y (rw (eq-eqb y y refl) tt))
     later false c i = i
 
 -- ---- an entry that is looked for
+
+-- what `any` finds
+pub any-elem : (x : ℕ) (l : List ℕ) → list_any (λ y. eqb x y) l ≡ elem x l
+unfolding elem
+any-elem x [] = refl
+any-elem x (y ∷ l) = ap (λ (b : Bool). eqb x y || b) (any-elem x l)
 
 module _ (x : ℕ) (l : List ℕ) {R : Bool} where
   elem-here : {i : ℕ} → i < length l → elem x (drop i l) ≡ R → (eqb x (get_or l i 0) || elem x (drop (i + 1) l)) ≡ R

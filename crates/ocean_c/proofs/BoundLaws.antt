@@ -1,6 +1,7 @@
 -- The value that a call tells is small enough for its bits. Follows docs/RULES.md, "Refusals". Assumes nothing.
 use mathlib.Core.List.{List}
-use mathlib.Core.Option.{some, none-ne-some}
+use Rattle.std.specs.Prelude.{Option, Some, None, IfSome}
+use Rattle.std.proofs.lemmas.Option.{none-some}
 use mathlib.Core.Path.{◌≡◌, refl, sym, subst}
 use Prim.Native.Nat.{ℕ, zero, suc, ◌%◌, ◌≤◌, ◌<◌}
 use native.Mathlib.Omega.{arith}
@@ -47,49 +48,58 @@ answer-refused {A} x n e = subst (λ (a : Asked A). Answered a) e tt
 
 -- ---- a neighbour
 
-near-inside : (g : Grid) (c d n : ℕ) (k : ℕ) → first_of (neighbour_tests g c d) ≡ k → answer (some n) ≡ unless k (neighbour g c d) → n < 4294967296
+near-inside : (g : Grid) (c d n : ℕ) (k : ℕ) → first_of (neighbour_tests g c d) ≡ k → answer (Some n) ≡ unless k (neighbour g c d) → n < 4294967296
 unfolding unless bad_direction bad_cell
 near-inside g c d n zero q e =
     let (size, (wrap, (direction, (cell, _)))) = first-passed (neighbour_tests g c d) q in
     let S = sized_of g size wrap in
-    let found : neighbour g c d ≡ some n = cc in
+    let found : neighbour g c d ≡ Some n = cc in
     let inside = neighbour-inside g c d n (leb-false (cells g) c cell) (omega (arith, ltb-false 3 d direction)) found in
     omega (arith, inside, S.few)
-near-inside g c d n (suc k) q e = absurd (answer-refused (some n) (suc k) e)
+near-inside g c d n (suc k) q e = absurd (answer-refused (Some n) (suc k) e)
 
-pub near-small : (g : Grid) (c d n : ℕ) → answer (some n) ≡ neighbour_asked g c d → n < 4294967296
+near-small : (g : Grid) (c d n : ℕ) → answer (Some n) ≡ neighbour_asked g c d → n < 4294967296
 unfolding neighbour_asked checked
 near-small g c d n e = near-inside g c d n (first_of (neighbour_tests g c d)) refl e
+
+-- and so is what lies there, if anything
+pub near-few : (g : Grid) (c d : ℕ) (o : Option ℕ) → answer o ≡ neighbour_asked g c d → IfSome o (λ n. n < 4294967296)
+near-few g c d (Some n) e = near-small g c d n e
+near-few g c d None e = tt
 
 -- ---- what is asked of a domain
 
 module _ (P : ℕ) (ws : List ℕ) (w : ℕ) where
   module _ (word p : ℕ) where
     -- a domain that is not refused has at most 64 weights
-    choice-taken : first_of (domain_tests P ws w) ≡ 0 → (s : ℕ) → taken_if s ws w word ≡ some p → p < 4294967296
+    choice-taken : first_of (domain_tests P ws w) ≡ 0 → (s : ℕ) → taken_if s ws w word ≡ Some p → p < 4294967296
     unfolding taken_if domain_refusal
-    choice-taken q zero e = absurd (none-ne-some p e)
+    choice-taken q zero e = absurd (none-some p e)
     choice-taken q (suc s) e =
         let B = domain_bounded P ws w q in
         omega (arith, weight-inside ws p (taken_in ws w (word % suc s) p e).1, B.few)
 
-    choice-inside : (k : ℕ) → first_of (domain_tests P ws w) ≡ k → answer (some p) ≡ unless k (choice_of ws w word) → p < 4294967296
+    choice-inside : (k : ℕ) → first_of (domain_tests P ws w) ≡ k → answer (Some p) ≡ unless k (choice_of ws w word) → p < 4294967296
     unfolding unless choice_of
     choice-inside zero q e = choice-taken q (weight_sum ws w) (cc)
-    choice-inside (suc k) q e = absurd (answer-refused (some p) (suc k) e)
+    choice-inside (suc k) q e = absurd (answer-refused (Some p) (suc k) e)
 
-    pub choice-small : answer (some p) ≡ choice_asked P ws w word → p < 4294967296
+    choice-small : answer (Some p) ≡ choice_asked P ws w word → p < 4294967296
     unfolding choice_asked checked
     choice-small e = choice-inside (first_of (domain_tests P ws w)) refl e
 
+  pub choice-few : (word : ℕ) (o : Option ℕ) → answer o ≡ choice_asked P ws w word → IfSome o (λ p. p < 4294967296)
+  choice-few word (Some p) e = choice-small word p e
+  choice-few word None e = tt
+
   -- an entropy that is told is no NaN
   module _ (x : Float) where
-    entropy-told : (k : ℕ) → first_of (domain_tests P ws w) ≡ k → answer (some x) ≡ unless k (entropy_of ws w) → Number x
+    entropy-told : (k : ℕ) → first_of (domain_tests P ws w) ≡ k → answer (Some x) ≡ unless k (entropy_of ws w) → Number x
     unfolding unless domain_refusal
     entropy-told zero q e = entropy_of-number ws w x (domain_bounded P ws w q).light (cc)
-    entropy-told (suc k) q e = absurd (answer-refused (some x) (suc k) e)
+    entropy-told (suc k) q e = absurd (answer-refused (Some x) (suc k) e)
 
-    pub entropy-number : answer (some x) ≡ entropy_asked P ws w → Number x
+    pub entropy-number : answer (Some x) ≡ entropy_asked P ws w → Number x
     unfolding entropy_asked checked
     entropy-number e = entropy-told (first_of (domain_tests P ws w)) refl e
 

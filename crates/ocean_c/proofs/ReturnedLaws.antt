@@ -13,7 +13,7 @@ use Rattle.layout.specs.Lending.{Lent}
 use Rattle.layout.specs.Reading.{sheet_in}
 use Rattle.course.specs.Called.{End, Memory, Outcome, outcome}
 use Rattle.sheet.specs.declared.Measures.{Measures}
-use Rattle.sheet.specs.declared.SizesAnswer.{SizesAnswer}
+use Rattle.std.specs.Prelude.{Result, Ok, Err}
 use Rattle.sheet.specs.Called.{form_test, measured, sizes_told, sizes_asked, read_tests, ReadOutcome, read_outcome, read_at, read_called, WriteOutcome, write_outcome}
 use Rattle.sheet.specs.Result.{ResultOutcome, result_outcome}
 use Rattle.ocean_c.specs.Coded.{coded, settled_coded, bytes_coded, accepted_coded}
@@ -21,7 +21,6 @@ use Rattle.ocean_c.specs.Returned.{Settled, settled, settled_of, Returned, retur
 use Rattle.refusals.proofs.RefusalLaws.{first-passed, passed_first}
 use Rattle.ocean_c.proofs.BoundLaws.{answer-refused}
 use Rattle.starting.specs.Propagate as propagation
-use Rattle.sheet.specs.declared.SizesAnswer.TheVariants as sizes
 
 -- ---- the answer as a number
 
@@ -64,17 +63,17 @@ measures-laid m (a ∷ b ∷ c ∷ d ∷ f ∷ []) e = absurd (omega (arith, e))
 measures-laid m (a ∷ b ∷ c ∷ d ∷ f ∷ g ∷ []) e = refl
 measures-laid m (a ∷ b ∷ c ∷ d ∷ f ∷ g ∷ h ∷ l) e = absurd (omega (arith, e))
 
-module _ {a : SizesAnswer} {told : Asked Measures} (is : sizes_told a ≡ told) (l : List ℕ) where
+module _ {a : Result Measures Refusal} {told : Asked Measures} (is : sizes_told a ≡ told) (l : List ℕ) where
   -- at each end of `murghidossu_sizes`
-  pub sized-refused : {r : Refusal} {n : ℕ} → a ≡ sizes.Refused r → n ≡ number r → sized n l ≡ sized_of told l
+  pub sized-refused : {r : Refusal} {n : ℕ} → a ≡ Err r → n ≡ number r → sized n l ≡ sized_of told l
   unfolding sized_of sizes_told
   sized-refused e k = ap (λ (n : ℕ). sized n l) k ∙ ap (λ (t : Asked Measures). sized_of t l) (sym (ap sizes_told e) ∙ is)
 
-  pub sized-short : {m : Measures} → a ≡ sizes.Sheet m → (length l ≡ 6 → ⊥) → sized 5 l ≡ sized_of told l
+  pub sized-short : {m : Measures} → a ≡ Ok m → (length l ≡ 6 → ⊥) → sized 5 l ≡ sized_of told l
   unfolding sized_of sized_in sizes_told
   sized-short {m} e h = sym (ap (λ (b : Bool). sized_in b m l) (ne_eqb (length l) 6 h)) ∙ ap (λ (t : Asked Measures). sized_of t l) (sym (ap sizes_told e) ∙ is)
 
-  pub sized-laid : {m : Measures} {l' : List ℕ} → a ≡ sizes.Sheet m → length l ≡ 6 → l' ≡ measures_of m → sized 0 l' ≡ sized_of told l
+  pub sized-laid : {m : Measures} {l' : List ℕ} → a ≡ Ok m → length l ≡ 6 → l' ≡ measures_of m → sized 0 l' ≡ sized_of told l
   unfolding sized_of sized_in sizes_told
   sized-laid {m} e h k =
       ap (λ (x : List ℕ). sized 0 x) k

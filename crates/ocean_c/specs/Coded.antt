@@ -1,7 +1,6 @@
 -- How an answer is told as one number: a refusal's number in the lowest byte, 0 there where the call is accepted; which case it is from bit 8;
 -- the case's value from bit 32. Follows docs/RULES.md, "Refusals". Assumes nothing.
-use Rattle.std.specs.Prelude.{Bool, true, false, ℕ, ◌+◌, ◌*◌, Float}
-use Rattle.std.proofs.Math.Option.{Option, none, some}
+use Rattle.std.specs.Prelude.{Bool, true, false, ℕ, ◌+◌, ◌*◌, Float, Option, None, Some}
 use Rattle.std.specs.Float.{binary32}
 use Rattle.std.specs.Float.Ieee.{to_bits}
 use Rattle.refusals.specs.Refusals.{Asked, refused, answer}
@@ -23,15 +22,15 @@ coded (answer e) = cased e.end e.used
 unfoldable pub found_coded : Asked (Option ℕ) → ℕ
 unfolding cased
 found_coded (refused n) = n
-found_coded (answer (some k)) = cased 0 k
-found_coded (answer none) = cased 1 0
+found_coded (answer (Some k)) = cased 0 k
+found_coded (answer None) = cased 1 0
 
 -- an entropy: 0 with its bits, 1 where there is none
 unfoldable pub entropy_coded : Asked (Option Float) → ℕ
 unfolding cased
 entropy_coded (refused n) = n
-entropy_coded (answer (some x)) = cased 0 (to_bits binary32 x)
-entropy_coded (answer none) = cased 1 0
+entropy_coded (answer (Some x)) = cased 0 (to_bits binary32 x)
+entropy_coded (answer None) = cased 1 0
 
 -- propagation: 0 consistent, 1 a contradiction
 unfoldable pub settled_coded : Asked Bool → ℕ

@@ -7,15 +7,15 @@ ghost use Rattle.sheet.specs.Called.{sizes_told, written_told};
 ghost use Rattle.ocean_c.specs.Coded.{cased, coded, settled_coded, accepted_coded, bytes_coded, used_in, bytes_in};
 
 use refusals::Refusal;
-use run::Answer;
-use sheet::{SizesAnswer, Written};
+use run::Stop;
+use sheet::Measures;
 use starting::Propagated;
 
 // The number of a refusal.
 pub(crate) fn refused(refusal: Refusal) -> u64
     ensures { result ≡ number refusal }
 {
-    refusals::inner::number(refusal) as u64
+    u32::from(refusal) as u64
 }
 
 // The number of a case with its value.
@@ -27,47 +27,47 @@ pub(crate) fn accepted(case: u64, value: usize) -> u64
 }
 
 // The number of a run's answer.
-pub(crate) fn code_of(told: Answer) -> u64
+pub(crate) fn code_of(told: Result<Stop, Refusal>) -> u64
     requires { used_in (answer_told told) ≤ 1024 }
     ensures { result ≡ coded (answer_told told) }
 {
     match told {
-        Answer::Decided(used) => accepted(0, used),
-        Answer::Undecided(used) => accepted(1, used),
-        Answer::Paused(used) => accepted(2, used),
-        Answer::Contradiction(used) => accepted(3, used),
-        Answer::Refused(refusal) => refused(refusal),
+        Ok(stop) => {
+            let case = u32::from(stop.end) as u64;
+            accepted(case, stop.used)
+        }
+        Err(refusal) => refused(refusal),
     }
 }
 
 // The number of what propagation answers.
-pub(crate) fn settled(told: Propagated) -> u64
+pub(crate) fn settled(told: Result<Propagated, Refusal>) -> u64
     ensures { result ≡ settled_coded (propagated_told told) }
 {
     match told {
-        Propagated::Consistent => accepted(0, 0),
-        Propagated::Contradiction => accepted(1, 0),
-        Propagated::Refused(refusal) => refused(refusal),
+        Ok(Propagated::Consistent) => accepted(0, 0),
+        Ok(Propagated::Contradiction) => accepted(1, 0),
+        Err(refusal) => refused(refusal),
     }
 }
 
 // 0 for a sheet that was read; what it holds stands in the lent slices.
-pub(crate) fn was_read(told: SizesAnswer) -> u64
+pub(crate) fn was_read(told: Result<Measures, Refusal>) -> u64
     ensures { result ≡ accepted_coded (sizes_told told) }
 {
     match told {
-        SizesAnswer::Sheet(_) => 0,
-        SizesAnswer::Refused(refusal) => refused(refusal),
+        Ok(_) => 0,
+        Err(refusal) => refused(refusal),
     }
 }
 
 // The number of how many bytes were written.
-pub(crate) fn written(told: Written) -> u64
+pub(crate) fn written(told: Result<usize, Refusal>) -> u64
     requires { bytes_in (written_told told) ≤ 41376 }
     ensures { result ≡ bytes_coded (written_told told) }
 {
     match told {
-        Written::Bytes(bytes) => accepted(0, bytes),
-        Written::Refused(refusal) => refused(refusal),
+        Ok(bytes) => accepted(0, bytes),
+        Err(refusal) => refused(refusal),
     }
 }

@@ -6,7 +6,7 @@ ghost use Rattle.adjacency.specs.Lookup.{list_refusal};
 ghost use Rattle.ocean_c.specs.Parts.{list_coded};
 
 use crate::codes::refused;
-use refusals::Verdict;
+use adjacency::inner::Table;
 
 // Whether a table with its weights is accepted, or the first refusal.
 #[unsafe(no_mangle)]
@@ -26,7 +26,12 @@ fn part_of(count: usize, offsets: &[u32], ids: &[u8], pattern: usize, direction:
     requires { list_refusal (table count offsets.now ids.now) pattern direction ≡ 0 }
     ensures { result ≡ list_coded (table count offsets.now ids.now) pattern direction }
 {
-    let list = adjacency::inner::list_of(count, offsets, ids, pattern, direction);
+    let table = Table {
+        count,
+        offsets,
+        ids,
+    };
+    let list = table.list_of(pattern, direction);
     let start = offsets[4 * pattern + direction];
     256 * (list.len() as u64) + 4294967296 * (start as u64)
 }
@@ -43,8 +48,8 @@ pub extern "C" fn murghidossu_list(
     ensures { result ≡ list_coded (table count offsets.now ids.now) pattern direction }
 {
     match adjacency::list_refusal(count, offsets, ids, pattern, direction) {
-        Verdict::Accepted => part_of(count, offsets, ids, pattern, direction),
-        Verdict::Refused(refusal) => refused(refusal),
+        Ok(()) => part_of(count, offsets, ids, pattern, direction),
+        Err(refusal) => refused(refusal),
     }
 }
 

@@ -7,7 +7,7 @@ ghost use Rattle.sheet.specs.Called.{sizes_asked, read_called, write_called};
 ghost use Rattle.ocean_c.specs.Returned.{measures_of, sized, sized_of, read_returned, read_returned_of, write_returned, write_returned_of};
 
 use crate::codes::{refused, was_read, written};
-use sheet::{Measures, SizesAnswer};
+use sheet::Measures;
 
 // How much a sheet holds, as six numbers: patterns, ids, width, height, mode, forbids.
 fn lay_measures(m: Measures, measures: &mut [usize])
@@ -28,8 +28,8 @@ pub extern "C" fn murghidossu_sizes(sheet: &[u8], measures: &mut [usize]) -> u64
     ensures { sized result measures.new ≡ sized_of (sizes_asked sheet.now) measures.old }
 {
     match sheet::sizes(sheet) {
-        SizesAnswer::Refused(refusal) => refused(refusal),
-        SizesAnswer::Sheet(m) => {
+        Err(refusal) => refused(refusal),
+        Ok(m) => {
             if measures.len() != 6 {
                 return 5;
             }

@@ -7,8 +7,7 @@ use Rattle.text.specs.Numbers.{decimal}
 use Rattle.chart.specs.declared.Ocean as shown
 use Rattle.chart.specs.Signs.{joins_x, joins_y}
 use Rattle.chart.specs.Tallies.{tally, alike}
-use Rattle.chart.specs.Chart as grid
-use Rattle.chart.specs.Chart.{row_count, end_text, label_text}
+use Rattle.chart.specs.Chart.{row_count, row_of, end_text, label_text}
 
 -- red, green and blue of each pattern, in a row
 unfoldable pub colours : List ℕ
@@ -66,7 +65,7 @@ tiles_text named y row = texts (λ x. tile_text named x y (get_or row x 0)) 0 (l
 
 -- row y of a picture, and no text past the last
 unfoldable pub picture_row : ℕ → Bool → List ℕ → ℕ → List ℕ
-picture_row width named domains y = cond (ltb y (row_count width domains)) (tiles_text named y (grid.row_of width domains y)) []
+picture_row width named domains y = cond (ltb y (row_count width domains)) (tiles_text named y (row_of width domains y)) []
 
 -- ---- what stands around the cells
 
@@ -153,8 +152,8 @@ picture_text width height mode named end words domains =
 abbrev pub head_of : shown.Ocean → List ℕ
 head_of o = head_text o.width o.height o.mode o.end o.words
 
-abbrev pub row_of : shown.Ocean → ℕ → List ℕ
-row_of o y = picture_row o.width o.named o.domains.now y
+abbrev pub picture_row_of : shown.Ocean → ℕ → List ℕ
+picture_row_of o y = picture_row o.width o.named o.domains.now y
 
 abbrev pub tail_of : shown.Ocean → List ℕ
 tail_of o = tail_text o.width o.height o.mode o.named o.domains.now

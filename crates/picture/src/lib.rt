@@ -3,7 +3,7 @@
 
 ghost use Rattle.std.specs.Prelude.{◌≡◌, ◌<◌, ◌≤◌};
 ghost use Rattle.text.specs.Pages.{Puts, texts};
-ghost use Rattle.picture.specs.Picture.{part, colour_text, square_text, place_text, fill_text, told_text, mark_text, tile_text, tiles_text, picture_row, stroke_text, upright_text, level_text, size_text, key_text, foot_text, beside_text, caption_text, swatch_text, shown_text, head_of, row_of, tail_of};
+ghost use Rattle.picture.specs.Picture.{part, colour_text, square_text, place_text, fill_text, told_text, mark_text, tile_text, tiles_text, picture_row, stroke_text, upright_text, level_text, size_text, key_text, foot_text, beside_text, caption_text, swatch_text, shown_text, head_of, picture_row_of, tail_of};
 ghost use Rattle.picture.specs.Picture as meaning;
 
 use chart::Ocean;
@@ -154,7 +154,7 @@ fn put_tiles(page: &mut Page, named: bool, y: usize, row: &[u64])
 // Row y of the picture, and nothing past the last.
 #[tactic(auto, using(text::proofs::PageLaws::in_a_row), unfolding(crate::specs::Picture::picture_row))]
 pub fn put_picture_row(page: &mut Page, ocean: &Ocean, y: usize)
-    ensures { Puts (row_of ocean.now y) page.old page.new }
+    ensures { Puts (picture_row_of ocean.now y) page.old page.new }
 {
     if y < row_count(ocean.width, ocean.domains.len()) {
         let start = y * ocean.width;

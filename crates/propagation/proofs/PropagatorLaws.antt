@@ -3,6 +3,7 @@
 -- Assumes nothing.
 use mathlib.Core.Bool.{Bool, true, false, not, ◌&&◌}
 use mathlib.Core.List.{List}
+use Rattle.std.specs.Prelude.{Option, None, Some}
 use mathlib.Core.Path.{◌≡◌, refl, sym, ap, subst, ◌∙◌}
 use Prim.Native.Nat.{ℕ, ◌+◌, ◌-◌, ◌*◌, ◌/◌, ◌%◌, ◌≤◌, ◌<◌}
 use native.Mathlib.Decide.{ℕ_discrete}
@@ -13,10 +14,7 @@ use lib.ListN.{length}
 use borrow.Author.Tests.{ltb-true, lt-ltb, not-true, not-false}
 use Rattle.loops.specs.Loops.{steps}
 use Rattle.adjacency.specs.Tables.{Table, list_of}
-use Rattle.grid.specs.declared.Near.{Near}
-use Rattle.grid.specs.declared.Near.TheVariants.{Cell, Edge}
 use Rattle.grid.specs.Grid.{Grid, cells, neighbour}
-use Rattle.grid.specs.Answers.{cell_of}
 use Rattle.consistency.specs.Domains.{possible, Fit}
 use Rattle.consistency.specs.Worklist.{Removal, removal, State, remove, decrements, spread_in, spread, propagate, propagated}
 use Rattle.consistency.specs.Safe.{total, Safe}
@@ -38,21 +36,20 @@ module _ {P n : ℕ} {D C Q : List ℕ} {pile : Pile} (L : Lent P n D C Q pile) 
 -- ---- a direction
 
 -- a neighbour that is a cell is one of the grid
-pub cell-inside : {t : Table} {g : Grid} {n c d m : ℕ} {v : Near} → Ground t g n → c < n → d < 4 → cell_of v ≡ neighbour g c d → v ≡ Cell m → m < n
-unfolding cell_of
+pub cell-inside : {t : Table} {g : Grid} {n c d m : ℕ} {v : Option ℕ} → Ground t g n → c < n → d < 4 → v ≡ neighbour g c d → v ≡ Some m → m < n
 cell-inside {t} {g} {n} {c} {d} {m} G hc hd e k =
-    omega (arith, G.all, neighbour-inside g c d m (omega (arith, G.all)) hd (sym e ∙ ap cell_of k))
+    omega (arith, G.all, neighbour-inside g c d m (omega (arith, G.all)) hd (sym e ∙ k))
 
 -- the ways through `spread_in`
-module _ (t : Table) (g : Grid) {X : Type 0} (keep : Removal → List ℕ → X → X) (c p d : ℕ) (s : State X) {v : Near} (e : cell_of v ≡ neighbour g c d) where
-  pub spread_in-cell : {m : ℕ} {list : List ℕ} {s' : State X} → v ≡ Cell m → list ≡ list_of t p d → s' ≡ decrements t.count keep m d list s
+module _ (t : Table) (g : Grid) {X : Type 0} (keep : Removal → List ℕ → X → X) (c p d : ℕ) (s : State X) {v : Option ℕ} (e : v ≡ neighbour g c d) where
+  pub spread_in-cell : {m : ℕ} {list : List ℕ} {s' : State X} → v ≡ Some m → list ≡ list_of t p d → s' ≡ decrements t.count keep m d list s
       → s' ≡ spread_in t g keep (removal c p) d s
-  unfolding spread_in cell_of
-  spread_in-cell k l f = rw (sym e ∙ ap cell_of k, f, l)
+  unfolding spread_in
+  spread_in-cell k l f = rw (sym e ∙ k, f, l)
 
-  pub spread_in-edge : v ≡ Edge → s ≡ spread_in t g keep (removal c p) d s
-  unfolding spread_in cell_of
-  spread_in-edge k = rw (sym e ∙ ap cell_of k)
+  pub spread_in-edge : v ≡ None → s ≡ spread_in t g keep (removal c p) d s
+  unfolding spread_in
+  spread_in-edge k = rw (sym e ∙ k)
 
 -- ---- all four directions
 

@@ -2,9 +2,8 @@
 use crate::choices::tell;
 use crate::input::{Head, Ids, Numbers, Slices, Stop};
 use crate::{input, print, sheets};
-use refusals::{Refusal, Verdict};
-use run::Answer;
-use starting::Propagated;
+use refusals::Refusal;
+use run::Ending;
 use std::io::Read;
 use transfer::room;
 
@@ -63,31 +62,10 @@ impl Work {
 
 // ---- a run
 
-// How a run ended, by its number in vectors/, and how many words it used.
-#[derive(Clone, Copy)]
-struct End {
-    number: u64,
-    used: usize,
-}
-
-// What a contradiction ends with.
-const CONTRADICTION: u64 = 3;
-
-fn end_of(answer: Answer) -> Result<End, Refusal> {
-    let (number, used) = match answer {
-        Answer::Decided(used) => (0, used),
-        Answer::Undecided(used) => (1, used),
-        Answer::Paused(used) => (2, used),
-        Answer::Contradiction(used) => (CONTRADICTION, used),
-        Answer::Refused(refusal) => return Err(refusal),
-    };
-    Ok(End { number, used })
-}
-
 // The run, on parts of the memory of the lengths that the call asks for.
-fn solve(head: &Head, slices: &Slices, domains: &mut Domains) -> Result<End, Refusal> {
+fn solve(head: &Head, slices: &Slices, domains: &mut Domains) -> Result<run::Stop, Refusal> {
     let mut work = Work::sevens();
-    end_of(run::run_numbers(
+    run::run_numbers(
         slices.forbids,
         head.count,
         head.width,
@@ -103,15 +81,15 @@ fn solve(head: &Head, slices: &Slices, domains: &mut Domains) -> Result<End, Ref
         lent(&mut work.pending, head.lent[2]),
         lent(&mut work.floats, head.lent[3]),
         lent(&mut work.marks, head.lent[4]),
-    ))
+    )
 }
 
 // Says where the choices lead elsewhere than the run, which leaves all domains zero after a contradiction and has used a word for each choice.
-fn compare<O: Print>(out: &O, end: End, made: usize, domains: &[u64], again: &[u64]) {
-    if made != end.used {
+fn compare<O: Print>(out: &O, stop: run::Stop, made: usize, domains: &[u64], again: &[u64]) {
+    if made != stop.used {
         print::wrong(out, "the choices are not as many as the words");
     }
-    if end.number == CONTRADICTION {
+    if stop.end == Ending::Contradiction {
         if !again.contains(&0) {
             print::wrong(out, "the choices end in no contradiction");
         }
@@ -125,15 +103,15 @@ fn run_told<O: Print>(out: &O, head: &Head, slices: &Slices) {
     let mut domains: Domains = room(7);
     match solve(head, slices, &mut domains) {
         Err(refusal) => print::refused(out, Some(refusal)),
-        Ok(end) => {
+        Ok(stop) => {
             let many = head.lent[0];
             let mut again: Domains = room(7);
-            print::line(out, "end", &[end.number, end.used as u64]);
+            print::end(out, stop);
             print::line(out, "domains", lent(&mut domains, many));
             let made = tell(out, head, slices, &mut again);
             compare(
                 out,
-                end,
+                stop,
                 made,
                 lent(&mut domains, many),
                 lent(&mut again, many),
@@ -175,11 +153,7 @@ fn propagate_told<O: Print>(out: &O, head: &Head, slices: &Slices) {
         lent(&mut work.counts, head.lent[1]),
         lent(&mut work.pending, head.lent[2]),
     );
-    let refusal = match answer {
-        Propagated::Refused(refusal) => Some(refusal),
-        Propagated::Consistent | Propagated::Contradiction => None,
-    };
-    print::refused(out, refusal);
+    print::refused(out, answer.err());
     print::line(out, "domains", lent(&mut domains, head.lent[0]));
 }
 
@@ -187,18 +161,15 @@ fn propagate_told<O: Print>(out: &O, head: &Head, slices: &Slices) {
 fn list_told<O: Print>(out: &O, head: &Head, slices: &Slices) {
     let Slices { offsets, ids, .. } = *slices;
     let list = adjacency::list(head.count, offsets, ids, head.pattern, head.direction);
-    let refusal = match adjacency::list_refusal(
+    let looked_up = adjacency::list_refusal(
         head.count,
         offsets,
         ids,
         head.pattern,
         head.direction,
-    ) {
-        Verdict::Accepted => None,
-        Verdict::Refused(refusal) => Some(refusal),
-    };
+    );
     print::line(out, "part", list);
-    print::refused(out, refusal);
+    print::refused(out, looked_up.err());
 }
 
 // ---- a call of the stream

@@ -1,5 +1,6 @@
 // Lines on standard output, as they stand in vectors/. What cannot be written is left out, and shows when the output is held to what was recorded.
 use refusals::Refusal;
+use run::Stop;
 use std::fmt::Display;
 
 // A line: a name, and numbers after it.
@@ -18,11 +19,12 @@ pub(crate) fn wrong<O: Print, W: Display + Drop>(out: &O, what: W) {
 
 // The number of a refusal, 0 for none.
 pub(crate) fn refused<O: Print>(out: &O, refusal: Option<Refusal>) {
-    line(
-        out,
-        "refused",
-        &[refusal.map_or(0, refusals::inner::number)],
-    );
+    line(out, "refused", &[refusal.map_or(0, u32::from)]);
+}
+
+// How a run ended, by its number in vectors/, and how many words it used.
+pub(crate) fn end<O: Print>(out: &O, stop: Stop) {
+    line(out, "end", &[u32::from(stop.end) as usize, stop.used]);
 }
 
 // A choice, with the bits of its entropy.

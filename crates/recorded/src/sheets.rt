@@ -3,7 +3,7 @@ use crate::calls::lent;
 use crate::input::{Head, Slices};
 use crate::print;
 use refusals::Refusal;
-use sheet::{Measures, SizesAnswer, Written};
+use sheet::Measures;
 use transfer::{front, room};
 
 type Bytes = [u8; 131072];
@@ -29,7 +29,7 @@ fn sevens<T: Copy + PartialEq + Drop, const N: usize>(
 
 // Writing, to a part of the memory of the length that the call asks for.
 fn write_in(head: &Head, slices: &Slices, out: &mut Bytes) -> Result<usize, Refusal> {
-    let written = sheet::write(
+    sheet::write(
         head.count,
         slices.weights,
         slices.offsets,
@@ -39,11 +39,7 @@ fn write_in(head: &Head, slices: &Slices, out: &mut Bytes) -> Result<usize, Refu
         head.mode,
         slices.forbids,
         lent(out, head.lent[0]),
-    );
-    match written {
-        Written::Bytes(n) => Ok(n),
-        Written::Refused(refusal) => Err(refusal),
-    }
+    )
 }
 
 // Writing, told with the bytes and with how many past them stayed.
@@ -62,13 +58,6 @@ pub(crate) fn write_told<O: Print>(out: &O, head: &Head, slices: &Slices) {
 }
 
 // ---- a sheet that is read
-
-fn held_of(answer: SizesAnswer) -> Result<Measures, Refusal> {
-    match answer {
-        SizesAnswer::Sheet(measures) => Ok(measures),
-        SizesAnswer::Refused(refusal) => Err(refusal),
-    }
-}
 
 // How much a sheet holds, or why that is not told.
 fn tell_held<O: Print>(out: &O, held: Result<Measures, Refusal>) {
@@ -104,13 +93,13 @@ impl Room {
 
 // Reading, into parts of the memory of the lengths that the call asks for.
 fn read_in(head: &Head, bytes: &[u8], memory: &mut Room) -> Result<Measures, Refusal> {
-    held_of(sheet::read(
+    sheet::read(
         bytes,
         lent(&mut memory.weights, head.lent[0]),
         lent(&mut memory.offsets, head.lent[1]),
         lent(&mut memory.ids, head.lent[2]),
         lent(&mut memory.forbids, head.lent[3]),
-    ))
+    )
 }
 
 // Where the entries of a sheet end in each slice.
@@ -167,7 +156,7 @@ fn tell_stayed<O: Print>(out: &O, head: &Head, ends: Ends, memory: &Room) {
 
 // Reading, told with what `sizes` tells of the same bytes, the entries and how many past them stayed.
 pub(crate) fn read_told<O: Print>(out: &O, head: &Head, bytes: &[u8]) {
-    tell_held(out, held_of(sheet::sizes(bytes)));
+    tell_held(out, sheet::sizes(bytes));
     let mut memory = Room::sevens();
     let held = read_in(head, bytes, &mut memory);
     let ends = Ends::of(held);

@@ -1,6 +1,6 @@
 -- Laws of the first refusal that holds, and that a number names one refusal.
 -- Assumes nothing.
-use mathlib.Core.Bool.{Bool, true, false, cond}
+use mathlib.Core.Bool.{Bool, true, false, cond, true≢false}
 use mathlib.Core.List.{List, [], ◌∷◌, ◌++◌}
 use mathlib.Core.Path.{◌≡◌, refl, sym, ap, ◌∙◌}
 use Prim.Native.Nat.{ℕ, zero, suc, ◌-◌, ◌≤◌}
@@ -8,10 +8,9 @@ use native.Mathlib.Omega.{arith}
 use lib.Dec.{eqb}
 use lib.ListN.{get_or}
 use borrow.Author.Tests.{ne_eqb}
+use Rattle.std.specs.Prelude.{Result, Ok, Err, is_err}
 use Rattle.refusals.specs.declared.Refusal.{Refusal}
 use Rattle.refusals.specs.declared.Refusal.TheVariants.{BadSize, BadWrap, BadCount, BadWeights, BadLength, BadList, Disagree, BadCell, BadPattern, BadSheet, BadDirection}
-use Rattle.refusals.specs.declared.Verdict.{Verdict}
-use Rattle.refusals.specs.declared.Verdict.TheVariants.{Accepted, Refused}
 use Rattle.refusals.specs.Refusals.{number, number_of, Test, first_of, refused, answer, unless, checked}
 
 -- ---- a number names one refusal
@@ -57,20 +56,36 @@ number-positive BadPattern e = omega arith
 number-positive BadSheet e = omega arith
 number-positive BadDirection e = omega arith
 
-pub number_of-injective : (v w : Verdict) → number_of v ≡ number_of w → v ≡ w
+pub number_of-injective : (v w : Result (Unit {0}) Refusal) → number_of v ≡ number_of w → v ≡ w
 unfolding number_of
-number_of-injective Accepted Accepted e = refl
-number_of-injective Accepted (Refused s) e = absurd (number-positive s (sym e))
-number_of-injective (Refused r) Accepted e = absurd (number-positive r e)
-number_of-injective (Refused r) (Refused s) e = ap Refused (number-injective r s e)
+number_of-injective (Ok u) (Ok v) e = refl
+number_of-injective (Ok u) (Err s) e = absurd (number-positive s (sym e))
+number_of-injective (Err r) (Ok v) e = absurd (number-positive r e)
+number_of-injective (Err r) (Err s) e = ap Err (number-injective r s e)
+
+-- a check that is refused has a number, and one that is not has none
+pub refused-positive : (v : Result (Unit {0}) Refusal) → is_err v ≡ true → number_of v ≡ 0 → ⊥
+unfolding number_of
+refused-positive (Ok u) t z = true≢false (sym t)
+refused-positive (Err r) t z = number-positive r z
+
+pub passed_zero : (v : Result (Unit {0}) Refusal) → is_err v ≡ false → number_of v ≡ 0
+unfolding number_of
+passed_zero (Ok u) t = refl
+passed_zero (Err r) t = absurd (true≢false t)
 
 -- ---- the first that holds
 
-pub number_of-refused : (r : Refusal) → number_of (Refused r) ≡ number r
+pub number_of-refused : (r : Refusal) → number_of (Err r) ≡ number r
 unfolding number_of
 number_of-refused r = refl
 
-pub number_of-accepted : number_of Accepted ≡ 0
+-- a refusal's number is not that of none
+pub number_of-positive : (r : Refusal) → number_of (Err r) ≡ 0 → ⊥
+unfolding number_of
+number_of-positive r = number-positive r
+
+pub number_of-accepted : number_of (Ok tt) ≡ 0
 unfolding number_of
 number_of-accepted = refl
 

@@ -1,10 +1,8 @@
 -- The refusals' numbers, and which refusal is given: the first whose test holds, in the order of a list. Follows docs/RULES.md, "Refusals".
 -- Assumes nothing.
-use Rattle.std.specs.Prelude.{Bool, cond, List, [], ◌∷◌, ℕ, zero, suc}
+use Rattle.std.specs.Prelude.{Bool, cond, List, [], ◌∷◌, ℕ, zero, suc, Result, Ok, Err}
 use Rattle.refusals.specs.declared.Refusal.{Refusal}
 use Rattle.refusals.specs.declared.Refusal.TheVariants.{BadSize, BadWrap, BadCount, BadWeights, BadLength, BadList, Disagree, BadCell, BadPattern, BadSheet, BadDirection}
-use Rattle.refusals.specs.declared.Verdict.{Verdict}
-use Rattle.refusals.specs.declared.Verdict.TheVariants.{Accepted, Refused}
 
 -- the number of each refusal
 unfoldable pub number : Refusal → ℕ
@@ -20,11 +18,11 @@ number BadPattern = 9
 number BadSheet = 10
 number BadDirection = 11
 
--- the number of a verdict: 0 where nothing is refused
-unfoldable pub number_of : Verdict → ℕ
+-- the number of what a check answers: 0 where nothing is refused
+unfoldable pub number_of : Result (Unit {0}) Refusal → ℕ
 unfolding number
-number_of Accepted = 0
-number_of (Refused r) = number r
+number_of (Ok u) = 0
+number_of (Err r) = number r
 
 -- a test, and the refusal that is given where it holds
 pub record Test : Type 0 where

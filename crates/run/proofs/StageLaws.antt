@@ -5,11 +5,10 @@ use mathlib.Core.List.{List, ◌∷◌, ◌++◌, []}
 use mathlib.Core.Path.{◌≡◌, refl, ◌∙◌, sym, ap}
 use Prim.Native.Nat.{ℕ, zero, suc, ◌+◌, ◌<◌}
 use native.Mathlib.Numerals.{add-one}
-use native.Mathlib.Omega.{arith}
-use lib.Dec.{eqb}
 use lib.ListN.{length, replicate}
-use borrow.Author.Tests.{eqb-true, ne_eqb}
-use Rattle.refusals.specs.Refusals.{Test, first_of, answer}
+use Rattle.std.specs.Prelude.{Result, Ok, Err}
+use Rattle.refusals.specs.declared.Refusal.{Refusal}
+use Rattle.refusals.specs.Refusals.{first_of, answer, number, number_of}
 use Rattle.grid.specs.Grid.{cells}
 use Rattle.consistency.specs.Worklist.{State}
 use Rattle.consistency.specs.Start.{start}
@@ -18,8 +17,9 @@ use Rattle.forbids.specs.declared.Forbid.{Forbid}
 use Rattle.course.specs.Run.{Given, begun, laid, laid_all, Ended, ended, collapse, run_of}
 use Rattle.forbids.specs.Forbids.{Placed, forbid_tests}
 use Rattle.course.specs.Called.{Memory, Room, room_of, Measured, base_tests, tests_of, outcome, cleared, finished, called_of}
-use Rattle.run.specs.Stages.{Stage, refused_at, contradicted, standing, state_in, contradiction_code, stage_of, Standing, begin_at, first_bad, beginning, lay_at, lay, lay_all, concluding, Concluded}
-use Rattle.refusals.proofs.RefusalLaws.{first-empty, first-append, first-most}
+use Rattle.run.specs.Answers.{answer_told}
+use Rattle.run.specs.Stages.{Stage, refused_at, contradicted, standing, state_in, begun_as, stage_of, Standing, begin_at, first_bad, beginning, lay_at, lay, lay_all, concluding}
+use Rattle.refusals.proofs.RefusalLaws.{first-append, number_of-positive}
 use Rattle.course.proofs.StateLaws.{forbade-settled}
 use Rattle.course.proofs.TurnLaws.{collapse-over}
 use Rattle.collapse.proofs.TurnsLaws.{turn-empty}
@@ -27,13 +27,19 @@ use Rattle.course.proofs.CalledLaws.{Granted, called-granted, called-accepted, r
 use Rattle.forbids.proofs.ForbidLaws.{placed-append}
 use Rattle.course.proofs.ForbidsLaws.{laid_all-append}
 
--- ---- a code and the lent slices stand for one stage
+-- ---- an answer and the lent slices stand for one stage
 
--- the code of a stage
-code_of : Stage → ℕ
-code_of (refused_at n m) = n
-code_of contradicted = contradiction_code
-code_of (standing s) = 0
+-- the number of a stage's refusal
+number_in : Stage → ℕ
+number_in (refused_at n m) = n
+number_in contradicted = 0
+number_in (standing s) = 0
+
+-- whether it is a contradiction
+empty_in : Stage → Bool
+empty_in (refused_at n m) = false
+empty_in contradicted = true
+empty_in (standing s) = false
 
 -- the state of a stage, or another
 state_or : State Beside → Stage → State Beside
@@ -42,46 +48,48 @@ state_or t contradicted = t
 state_or t (standing s) = s
 
 module _ (P : ℕ) where
-  -- a stage tells its code
-  stage_code : (code : ℕ) (m : Memory) → code_of (stage_of P code m) ≡ code
-  unfolding stage_of code_of
-  stage_code zero m = refl
-  stage_code (suc n) m = go (eqb (suc n) contradiction_code) refl
-    where
-      go : (b : Bool) → eqb (suc n) contradiction_code ≡ b → code_of (cond b contradicted (refused_at (suc n) m)) ≡ suc n
-      go true e = sym (eqb-true (suc n) contradiction_code e)
-      go false e = refl
+  -- the stage after the beginning tells its refusal
+  begun_number : (r : Result (Unit {0}) Refusal) (m : Memory) → number_in (begun_as P r m) ≡ number_of r
+  unfolding begun_as number_in number_of
+  begun_number (Ok u) m = refl
+  begun_number (Err r) m = refl
 
   -- and, while the run goes on, its state
-  pub stage-state : (m : Memory) (s : State Beside) → stage_of P 0 m ≡ standing s → state_in P m ≡ s
-  unfolding stage_of state_or
-  stage-state m s e = ap (state_or s) e
+  standing-state : (m : Memory) (s : State Beside) → standing (state_in P m) ≡ standing s → state_in P m ≡ s
+  unfolding state_or
+  standing-state m s e = ap (state_or s) e
 
-  -- a code below a contradiction's is that of a refused call
-  pub stage-refused : (n : ℕ) (m : Memory) → suc n < contradiction_code → stage_of P (suc n) m ≡ refused_at (suc n) m
-  unfolding stage_of
-  stage-refused n m h = ap (λ (b : Bool). cond b contradicted (refused_at (suc n) m)) (ne_eqb (suc n) contradiction_code (λ e. omega (arith, e, h)))
+  begun-state : (r : Result (Unit {0}) Refusal) (m : Memory) (s : State Beside) → number_of r ≡ 0 → begun_as P r m ≡ standing s → state_in P m ≡ s
+  unfolding begun_as
+  begun-state (Ok u) m s z e = standing-state m s e
+  begun-state (Err r) m s z e = absurd (number_of-positive r z)
+
+  -- the stage after a forbid tells whether it emptied a cell
+  stage_empty : (b : Bool) (m : Memory) → empty_in (stage_of P b m) ≡ b
+  unfolding stage_of empty_in
+  stage_empty true m = refl
+  stage_empty false m = refl
 
 -- ---- the beginning
 
 module _ (bad lent : ℕ) (i : Given) (m : Memory) where
-  begin_at_lem : (n : ℕ) → code_of (begin_at n i m) ≡ n
-  unfolding begin_at code_of
+  begin_at_lem : (n : ℕ) → number_in (begin_at n i m) ≡ n
+  unfolding begin_at number_in
   begin_at_lem zero = refl
-  begin_at_lem (suc n) = stage_code i.table.count (suc n) m
+  begin_at_lem (suc n) = refl
 
-  -- its code is the first refusal's number
-  begin_code : (code : ℕ) (m' : Memory) → stage_of i.table.count code m' ≡ beginning bad lent i m → code ≡ first_bad bad lent i m
+  -- its answer is the first refusal
+  begin_number : (r : Result (Unit {0}) Refusal) (m' : Memory) → begun_as i.table.count r m' ≡ beginning bad lent i m → number_of r ≡ first_bad bad lent i m
   unfolding beginning
-  begin_code code m' e = sym (stage_code i.table.count code m') ∙ ap code_of e ∙ begin_at_lem (first_bad bad lent i m)
+  begin_number r m' e = sym (begun_number i.table.count r m') ∙ ap number_in e ∙ begin_at_lem (first_bad bad lent i m)
 
   begin_accepted : first_bad bad lent i m ≡ 0 → beginning bad lent i m ≡ standing (begun i)
   unfolding beginning begin_at
   begin_accepted e = ap (λ (n : ℕ). begin_at n i m) e
 
-  begin_refused : (n : ℕ) → first_bad bad lent i m ≡ suc n → suc n < contradiction_code → beginning bad lent i m ≡ refused_at (suc n) m
+  begin_refused : (n : ℕ) → first_bad bad lent i m ≡ suc n → beginning bad lent i m ≡ refused_at (suc n) m
   unfolding beginning begin_at
-  begin_refused n e h = ap (λ (n : ℕ). begin_at n i m) e ∙ stage-refused i.table.count n m h
+  begin_refused n e = ap (λ (n : ℕ). begin_at n i m) e
 
 -- the first refusal of all tests
 first-bad : (lent : ℕ) (i : Given) (fs : List Forbid) (m : Memory)
@@ -108,22 +116,17 @@ module _ (i : Given) where
   contradicted-kept [] = refl
   contradicted-kept (f ∷ fs) = contradicted-kept fs
 
-  -- so a code that is not 0 ends the laying
-  pub laying_stops : (fs : List Forbid) (code : ℕ) (m : Memory) → (code ≡ 0 → ⊥) → lay_all i fs (stage_of i.table.count code m) ≡ stage_of i.table.count code m
-  unfolding stage_of
-  laying_stops fs zero m h = absurd (h refl)
-  laying_stops fs (suc n) m h = go (eqb (suc n) contradiction_code)
-    where
-      go : (b : Bool) → lay_all i fs (cond b contradicted (refused_at (suc n) m)) ≡ cond b contradicted (refused_at (suc n) m)
-      go true = contradicted-kept fs
-      go false = refused-kept fs (suc n) m
-
   -- the next forbid is laid, and the rest from there
-  pub laying_next : (f : Forbid) (fs : List Forbid) (code : ℕ) (m : Memory) (r : ℕ) (m' : Memory) → code ≡ 0
-      → stage_of i.table.count r m' ≡ lay_at i f (state_in i.table.count m)
-      → lay_all i (f ∷ fs) (stage_of i.table.count code m) ≡ lay_all i fs (stage_of i.table.count r m')
-  unfolding lay_all lay stage_of
-  laying_next f fs code m r m' z e = ap (λ (n : ℕ). lay_all i (f ∷ fs) (stage_of i.table.count n m)) z ∙ sym (ap (lay_all i fs) e)
+  pub laying_next : (f : Forbid) (fs : List Forbid) (m : Memory) (b : Bool) (m' : Memory)
+      → stage_of i.table.count b m' ≡ lay_at i f (state_in i.table.count m)
+      → lay_all i (f ∷ fs) (standing (state_in i.table.count m)) ≡ lay_all i fs (stage_of i.table.count b m')
+  unfolding lay_all lay
+  laying_next f fs m b m' e = sym (ap (lay_all i fs) e)
+
+  -- a cell that is emptied ends the laying
+  pub laying_stops : (fs : List Forbid) (m : Memory) → lay_all i fs (stage_of i.table.count true m) ≡ stage_of i.table.count true m
+  unfolding stage_of
+  laying_stops fs m = contradicted-kept fs
 
   -- none is left
   pub laying_done : (x : Stage) → lay_all i [] x ≡ x
@@ -207,7 +210,7 @@ module _ (lent : ℕ) (i : Given) (fs : List Forbid) (words : List ℕ) (m : Mem
           refused_same lent i fs words m n e
           ∙ sym (
           ap (λ (x : Stage). concluding i words (lay_all i fs x) m)
-          (begin_refused _ lent i m n (first-bad lent i fs m ∙ e) (omega (arith, e, first-most (tests_of lent i fs m))))
+          (begin_refused _ lent i m n (first-bad lent i fs m ∙ e))
           ∙ ap (λ (x : Stage). concluding i words x m) (refused-kept i fs (suc n) m)
           )
 
@@ -225,81 +228,59 @@ module _ (i : Given) where
         marks = ap (λ (r : Room). r.marks) e ∙ M.marks;
       }
 
-  -- the beginning: its code is what all tests come to
-  begun-tested : (lent : ℕ) (fs : List Forbid) (m : Memory) (code : ℕ) (m' : Memory)
-      → stage_of i.table.count code m' ≡ beginning (first_of (forbid_tests i.table i.grid fs)) lent i m → code ≡ first_of (tests_of lent i fs m)
-  begun-tested lent fs m code m' e = begin_code _ lent i m code m' e ∙ first-bad lent i fs m
+  module _ (lent : ℕ) (fs : List Forbid) (m : Memory) (r : Result (Unit {0}) Refusal) (m' : Memory)
+      (e : begun_as i.table.count r m' ≡ beginning (first_of (forbid_tests i.table i.grid fs)) lent i m) where
+    -- the beginning: its answer is what all tests come to
+    begun-tested : number_of r ≡ first_of (tests_of lent i fs m)
+    begun-tested = begin_number _ lent i m r m' e ∙ first-bad lent i fs m
 
-  -- where it is 0 nothing is refused
-  begun-granted : (lent : ℕ) (fs : List Forbid) (m : Memory) (code : ℕ) (m' : Memory)
-      → stage_of i.table.count code m' ≡ beginning (first_of (forbid_tests i.table i.grid fs)) lent i m → code ≡ 0 → Granted lent i fs m
-  begun-granted lent fs m code m' e z = called-granted lent i fs m (sym (begun-tested lent fs m code m' e) ∙ z)
+    module _ (z : number_of r ≡ 0) where
+      -- where it accepts nothing is refused
+      begun-granted : Granted lent i fs m
+      begun-granted = called-granted lent i fs m (sym begun-tested ∙ z)
 
-  -- so every forbid is of the grid
-  pub begun-placed : (lent : ℕ) (fs : List Forbid) (m : Memory) (code : ℕ) (m' : Memory)
-      → stage_of i.table.count code m' ≡ beginning (first_of (forbid_tests i.table i.grid fs)) lent i m → code ≡ 0
-      → Placed i.table.count (cells i.grid) fs
-  begun-placed lent fs m code m' e z = (begun-granted lent fs m code m' e z).lawful.placed
+      -- so every forbid is of the grid
+      pub begun-placed : Placed i.table.count (cells i.grid) fs
+      begun-placed = begun-granted.lawful.placed
 
-  -- and the run stands at the start
-  pub begun-standing : (lent : ℕ) (fs : List Forbid) (m : Memory) (code : ℕ) (m' : Memory)
-      → stage_of i.table.count code m' ≡ beginning (first_of (forbid_tests i.table i.grid fs)) lent i m → room_of m' ≡ room_of m → code ≡ 0 → Standing i m'
-  unfolding laid_all
-  begun-standing lent fs m code m' e same z =
-      let G = begun-granted lent fs m code m' e z in
-      record {
-        sized = G.sized;
-        heard = G.noise;
-        measured = measured-kept m m' same G.memory;
-        laid =
-            record {
-              forbids = [];
-              lawful = record { accepted = G.lawful.accepted; weighed = G.lawful.weighed; placed = tt };
-              is =
-                  stage-state i.table.count m' (begun i)
-                  (ap (λ (n : ℕ). stage_of i.table.count n m') (sym z) ∙ e
-                  ∙ begin_accepted _ lent i m (sym (begin_code _ lent i m code m' e) ∙ z));
-            };
-      }
+      -- and the run stands at the start
+      pub begun-standing : room_of m' ≡ room_of m → Standing i m'
+      unfolding laid_all
+      begun-standing same =
+          let G = begun-granted in
+          record {
+            sized = G.sized;
+            heard = G.noise;
+            measured = measured-kept m m' same G.memory;
+            laid =
+                record {
+                  forbids = [];
+                  lawful = record { accepted = G.lawful.accepted; weighed = G.lawful.weighed; placed = tt };
+                  is =
+                      begun-state i.table.count r m' (begun i) z
+                      (e ∙ begin_accepted _ lent i m (sym (begin_number _ lent i m r m' e) ∙ z));
+                };
+          }
 
-  -- so it leaves what the forbids and the conclusion take
-  pub begun_concluded : (lent : ℕ) (fs : List Forbid) (m : Memory) (code : ℕ) (m' : Memory)
-      → stage_of i.table.count code m' ≡ beginning (first_of (forbid_tests i.table i.grid fs)) lent i m → room_of m' ≡ room_of m → Concluded i code m'
-  begun_concluded lent fs m code m' e same =
-      record { tested = λ _. (tests_of lent i fs m, begun-tested lent fs m code m' e); standing = begun-standing lent fs m code m' e same }
-
-  -- forbids from where the run stands: a code that is 0 or a contradiction's, and 0 where the run stands again
-  module _ (fs : List Forbid) (m : Memory) (S : Standing i m) (r : ℕ) (m' : Memory)
-      (e : stage_of i.table.count r m' ≡ lay_all i fs (standing (state_in i.table.count m))) where
+  -- forbids from where the run stands: whether one emptied a cell, and where none did the run stands again
+  module _ (fs : List Forbid) (m : Memory) (S : Standing i m) (b : Bool) (m' : Memory)
+      (e : stage_of i.table.count b m' ≡ lay_all i fs (standing (state_in i.table.count m))) where
     abbrev after : State Beside
     after = laid_all i fs (state_in i.table.count m)
 
-    laid-stage : stage_of i.table.count r m' ≡ staged i after
+    laid-stage : stage_of i.table.count b m' ≡ staged i after
     laid-stage = e ∙ lay_all-standing i fs (state_in i.table.count m) refl
 
-    laid_code : r ≡ cond after.empty contradiction_code 0
-    unfolding staged code_of
-    laid_code = sym (stage_code i.table.count r m') ∙ ap code_of laid-stage ∙ go after.empty
+    laid-empty : b ≡ after.empty
+    unfolding staged empty_in
+    laid-empty = sym (stage_empty i.table.count b m') ∙ ap empty_in laid-stage ∙ go after.empty
       where
-        go : (b : Bool) → code_of (cond b contradicted (standing after)) ≡ cond b contradiction_code 0
+        go : (x : Bool) → empty_in (cond x contradicted (standing after)) ≡ x
         go true = refl
         go false = refl
 
-    laid-tested : (r ≡ contradiction_code → ⊥) → (tests : List Test) × (r ≡ first_of tests)
-    laid-tested h = go after.empty laid_code
-      where
-        go : (b : Bool) → r ≡ cond b contradiction_code 0 → (tests : List Test) × (r ≡ first_of tests)
-        go true e = absurd (h e)
-        go false e = ([], e ∙ sym first-empty)
-
-    laid-whole : r ≡ 0 → after.empty ≡ false
-    laid-whole z = go after.empty laid_code
-      where
-        go : (b : Bool) → r ≡ cond b contradiction_code 0 → b ≡ false
-        go true h = absurd (omega (arith, h, z))
-        go false h = refl
-
-    pub laid-standing : Placed i.table.count (cells i.grid) fs → room_of m' ≡ room_of m → r ≡ 0 → Standing i m'
+    pub laid-standing : Placed i.table.count (cells i.grid) fs → room_of m' ≡ room_of m → b ≡ false → Standing i m'
+    unfolding stage_of
     laid-standing placed same z =
         let L = S.laid in
         record {
@@ -311,43 +292,37 @@ module _ (i : Given) where
                 forbids = L.forbids ++ fs;
                 lawful = record { accepted = L.lawful.accepted; weighed = L.lawful.weighed; placed = placed-append _ _ L.forbids fs L.lawful.placed placed };
                 is =
-                    stage-state i.table.count m' after
-                    (ap (λ (n : ℕ). stage_of i.table.count n m') (sym z) ∙ laid-stage ∙ sym (standing_staged i after (laid-whole z)))
+                    standing-state i.table.count m' after
+                    (ap (λ (x : Bool). stage_of i.table.count x m') (sym z) ∙ laid-stage ∙ sym (standing_staged i after (sym laid-empty ∙ z)))
                     ∙ ap (laid_all i fs) L.is ∙ sym (laid_all-append i L.forbids fs (begun i));
               };
         }
 
-    -- so they leave what the conclusion takes
-    laid_concluded : Placed i.table.count (cells i.grid) fs → room_of m' ≡ room_of m → Concluded i r m'
-    laid_concluded placed same = record { tested = laid-tested; standing = laid-standing placed same }
-
   -- one forbid from where the run stands
-  pub lay_concluded : (f : Forbid) (m : Memory) → Standing i m → (r : ℕ) (m' : Memory) → stage_of i.table.count r m' ≡ lay_at i f (state_in i.table.count m)
-      → f.cell < cells i.grid → f.pattern < i.table.count → room_of m' ≡ room_of m → Concluded i r m'
+  pub lay_standing : (f : Forbid) (m : Memory) → Standing i m → (b : Bool) (m' : Memory) → stage_of i.table.count b m' ≡ lay_at i f (state_in i.table.count m)
+      → f.cell < cells i.grid → f.pattern < i.table.count → room_of m' ≡ room_of m → b ≡ false → Standing i m'
   unfolding lay_all lay
-  lay_concluded f m S r m' e hc hp same = laid_concluded (f ∷ []) m S r m' e (hc, hp, tt) same
+  lay_standing f m S b m' e hc hp same = laid-standing (f ∷ []) m S b m' e (hc, hp, tt) same
 
-  -- all of them, from a code that may end the laying
-  pub lay_all_concluded : (fs : List Forbid) (code : ℕ) (m : Memory) → Concluded i code m → (code ≡ 0 → Placed i.table.count (cells i.grid) fs) → (r : ℕ) (m' : Memory)
-      → stage_of i.table.count r m' ≡ lay_all i fs (stage_of i.table.count code m) → room_of m' ≡ room_of m → Concluded i r m'
-  unfolding stage_of
-  lay_all_concluded fs zero m C placed r m' e same = laid_concluded fs m (C.standing refl) r m' e (placed refl) same
-  lay_all_concluded fs (suc n) m C placed r m' e same =
-      record {
-        tested = λ h. let (tests, first) = C.tested (λ z. h (kept ∙ z)) in (tests, kept ∙ first);
-        standing = λ z. absurd (omega (arith, kept, z));
-      }
-    where
-      kept : r ≡ suc n
-      kept =
-          sym (stage_code i.table.count r m') ∙ ap code_of (e ∙ laying_stops i fs (suc n) m (λ z. omega (arith, z)))
-          ∙ stage_code i.table.count (suc n) m
+-- ---- the stages of the code
 
--- the stages of the code, one after the other: begun, then laid, then to be concluded
-pub stages_called : (lent : ℕ) (i : Given) (fs : List Forbid) (words : List ℕ) (m : Memory) (code : ℕ) (m₁ : Memory) (r : ℕ) (m₂ : Memory)
-    → stage_of i.table.count code m₁ ≡ beginning (first_of (forbid_tests i.table i.grid fs)) lent i m
-    → stage_of i.table.count r m₂ ≡ lay_all i fs (stage_of i.table.count code m₁) → room_of m₂ ≡ room_of m
-    → concluding i words (stage_of i.table.count r m₂) m₂ ≡ called_of lent i fs words m
-stages_called lent i fs words m code m₁ r m₂ began laid same =
-    concluding-room i words (stage_of i.table.count r m₂) m m₂ same
-    ∙ ap (λ (x : Stage). concluding i words x m) (laid ∙ ap (lay_all i fs) began) ∙ sym (called_stages lent i fs words m)
+module _ (lent : ℕ) (i : Given) (fs : List Forbid) (words : List ℕ) (m : Memory) (m₁ : Memory) where
+  -- refused, the call comes to that
+  pub refused_called : (r : Refusal) → begun_as i.table.count (Err r) m₁ ≡ beginning (first_of (forbid_tests i.table i.grid fs)) lent i m
+      → outcome (answer_told (Err r)) m₁ ≡ called_of lent i fs words m
+  unfolding begun_as answer_told concluding
+  refused_called r began =
+      sym (
+      called_stages lent i fs words m ∙ ap (λ (x : Stage). concluding i words (lay_all i fs x) m) (sym began)
+      ∙ ap (λ (x : Stage). concluding i words x m) (refused-kept i fs (number r) m₁)
+      )
+
+  -- one after the other: begun, then laid, then to be concluded
+  pub stages_called : (b : Bool) (m₂ : Memory)
+      → begun_as i.table.count (Ok tt) m₁ ≡ beginning (first_of (forbid_tests i.table i.grid fs)) lent i m
+      → stage_of i.table.count b m₂ ≡ lay_all i fs (standing (state_in i.table.count m₁)) → room_of m₂ ≡ room_of m
+      → concluding i words (stage_of i.table.count b m₂) m₂ ≡ called_of lent i fs words m
+  unfolding begun_as
+  stages_called b m₂ began laid same =
+      concluding-room i words (stage_of i.table.count b m₂) m m₂ same
+      ∙ ap (λ (x : Stage). concluding i words x m) (laid ∙ ap (lay_all i fs) began) ∙ sym (called_stages lent i fs words m)

@@ -3,15 +3,16 @@
 use mathlib.Core.Bool.{Bool, true, false, cond}
 use mathlib.Core.List.{List, [], append-nil}
 use mathlib.Core.Path.{◌≡◌, refl, sym, ap, subst, ◌∙◌}
-use Prim.Native.Nat.{ℕ, zero, suc, ◌+◌, ◌*◌, ◌≤◌, ◌<◌}
+use Prim.Native.Nat.{ℕ, zero, suc, ◌+◌, ◌*◌, ◌<◌}
 use native.Mathlib.Nat.{mul-le-mul}
 use native.Mathlib.Omega.{arith}
 use lib.Dec.{eqb}
 use lib.ListN.{length, take, drop, replicate}
 use borrow.Author.Tests.{eq-eqb, ne_eqb}
 use Rattle.order.specs.Numbers.{Numbers}
+use Rattle.std.specs.Prelude.{Result, Ok, Err}
 use Rattle.refusals.specs.declared.Refusal.{Refusal}
-use Rattle.refusals.specs.Refusals.{first_of, Asked, refused, answer, number}
+use Rattle.refusals.specs.Refusals.{first_of, answer, number, number_of}
 use Rattle.grid.specs.Grid.{cells}
 use Rattle.notes.specs.Blocks.{blocks}
 use Rattle.consistency.specs.Worklist.{State, state}
@@ -20,21 +21,21 @@ use Rattle.notes.specs.Beside.{Beside, beside_in}
 use Rattle.propagation.specs.Lent.{pending_of, state_of, Lent, Ground}
 use Rattle.notes.specs.Sizes.{Roomy, Alongside}
 use Rattle.forbids.specs.declared.Forbid.{Forbid}
-use Rattle.run.specs.declared.Answer.TheVariants.{Contradiction, Refused}
-use Rattle.collapse.specs.declared.inner.turns.Stop.{Stop}
+use Rattle.collapse.specs.declared.Ending.TheVariants.{Contradiction}
+use Rattle.collapse.specs.declared.Stop.{Stop}
+use Rattle.collapse.specs.Endings.{end_number}
 use Rattle.course.specs.Run.{Given, begun, asked, laid, Ended, collapse}
 use Rattle.course.specs.Course.{full_less, wanted}
-use Rattle.course.specs.Called.{Memory, memory, Room, room, room_of, base_tests, tests_of, End, Outcome, outcome, cleared, finished}
+use Rattle.course.specs.Called.{Memory, memory, Room, room, room_of, base_tests, tests_of, outcome, cleared, finished}
 use Rattle.collapse.specs.Steps.{Opened, idle, ended_as}
 use Rattle.forbids.specs.Forbids.{forbid_tests}
 use Rattle.run.specs.Answers.{answer_told}
-use Rattle.run.specs.Stages.{contradicted, standing, state_in, contradiction_code, stage_of, Standing, begin_at, first_bad, beginning, lay_at, concluding}
+use Rattle.run.specs.Stages.{contradicted, standing, state_in, begun_as, stage_of, refused_at, Standing, begin_at, first_bad, beginning, lay_at, concluding}
+use Rattle.refusals.proofs.RefusalLaws.{number-positive}
 use Rattle.consistency.proofs.Settled.{Settled}
 use Rattle.propagation.proofs.LentLaws.{safe-beside}
 use Rattle.course.proofs.StateLaws.{asked-inside, reduced_by-settled, forbade-settled}
-use Rattle.course.proofs.CourseLaws.{run_final}
-use Rattle.course.proofs.EndLaws.{end-most}
-use Rattle.collapse.proofs.TurnsLaws.{pile_idle, laid-run, laid-numbers}
+use Rattle.collapse.proofs.TurnsLaws.{pile_idle, laid-numbers}
 use Rattle.collapse.proofs.WatchLaws.{laid-at}
 use Rattle.course.proofs.CalledLaws.{Granted, called-granted}
 
@@ -50,35 +51,43 @@ pub granted-opened : {lent : ℕ} {i : Given} {m : Memory} → Granted lent i []
     → Opened i.table.count (cells i.grid) m.domains m.counts m.floats m.marks
 granted-opened {m = m} G = record { some = omega (arith, mul-le-mul G.sized.tall G.sized.wide); pending = m.pending; measured = G.memory }
 
-module _ (bad lent : ℕ) (i : Given) (m : Memory) {n : ℕ} (e : n ≡ first_of (base_tests i lent (room_of m))) where
+module _ (bad : Result (Unit {0}) Refusal) (lent : ℕ) (i : Given) (m : Memory) where
+  -- the number of the first refusal before the forbids'
+  abbrev base : ℕ
+  base = first_of (base_tests i lent (room_of m))
+
   -- a refusal leaves all as it was
-  refused-at : (k : ℕ) → (k ≡ 0 → ⊥) → stage_of i.table.count k m ≡ begin_at k i m
-  unfolding begin_at
-  refused-at zero z = absurd (z refl)
-  refused-at (suc k) z = refl
+  refused-at : (r : Refusal) → begun_as i.table.count (Err r) m ≡ begin_at (number r) i m
+  unfolding begun_as begin_at
+  refused-at r = go (number r) (number-positive r)
+    where
+      go : (k : ℕ) → (k ≡ 0 → ⊥) → refused_at k m ≡ begin_at k i m
+      go zero z = absurd (z refl)
+      go (suc k) z = refl
 
   -- one before the forbids' is the first
-  pub begin_refused : (n ≡ 0 → ⊥) → stage_of i.table.count n m ≡ beginning bad lent i m
-  unfolding beginning first_bad
-  begin_refused z =
-      refused-at n z ∙ ap (λ (k : ℕ). begin_at k i m) (e ∙ sym (ap (λ (b : Bool). cond b bad (first_of (base_tests i lent (room_of m)))) (ne_eqb _ 0 (λ y. z (e ∙ y)))))
+  pub begin_refused : (r : Refusal) → number_of (Err r) ≡ base → begun_as i.table.count (Err r) m ≡ beginning (number_of bad) lent i m
+  unfolding beginning first_bad number_of
+  begin_refused r e =
+      refused-at r
+      ∙ ap (λ (k : ℕ). begin_at k i m) (e ∙ sym (ap (λ (b : Bool). cond b (number_of bad) base) (ne_eqb base 0 (λ y. number-positive r (e ∙ y)))))
 
-  module _ (z : n ≡ 0) where
+  module _ (z : base ≡ 0) where
     -- nothing before the forbids is refused
-    first-bad : first_bad bad lent i m ≡ bad
+    first-bad : first_bad (number_of bad) lent i m ≡ number_of bad
     unfolding first_bad
-    first-bad = ap (λ (b : Bool). cond b bad (first_of (base_tests i lent (room_of m)))) (eq-eqb _ 0 (sym e ∙ z))
+    first-bad = ap (λ (b : Bool). cond b (number_of bad) base) (eq-eqb base 0 z)
 
     -- otherwise the forbids'
-    pub begin_bad : (bad ≡ 0 → ⊥) → stage_of i.table.count bad m ≡ beginning bad lent i m
-    unfolding beginning
-    begin_bad y = refused-at bad y ∙ ap (λ (k : ℕ). begin_at k i m) (sym first-bad)
+    pub begin_bad : (r : Refusal) → bad ≡ Err r → begun_as i.table.count (Err r) m ≡ beginning (number_of bad) lent i m
+    unfolding beginning number_of
+    begin_bad r y = refused-at r ∙ ap (λ (k : ℕ). begin_at k i m) (sym (first-bad ∙ ap number_of y))
 
     -- without any the run begins
-    pub begin_standing : bad ≡ 0 → (m' : Memory) → state m'.counts m'.domains [] false (beside_in (length m'.domains) m'.floats m'.marks) ≡ begun i
-        → stage_of i.table.count 0 m' ≡ beginning bad lent i m
-    unfolding beginning begin_at stage_of pending_of
-    begin_standing y m' s = ap standing s ∙ ap (λ (k : ℕ). begin_at k i m) (sym (first-bad ∙ y))
+    pub begin_standing : bad ≡ Ok tt → (m' : Memory) → state m'.counts m'.domains [] false (beside_in (length m'.domains) m'.floats m'.marks) ≡ begun i
+        → begun_as i.table.count (Ok tt) m' ≡ beginning (number_of bad) lent i m
+    unfolding beginning begin_at begun_as pending_of number_of
+    begin_standing y m' s = ap standing s ∙ ap (λ (k : ℕ). begin_at k i m) (sym (first-bad ∙ ap number_of y))
 
 -- ---- while the run goes on
 
@@ -148,11 +157,6 @@ module _ {i : Given} {m : Memory} (S : Standing i m) where
     after-empty : {b : Bool} → pile.empty ≡ b → after.empty ≡ b
     after-empty h = sym (ap (λ (s : State Beside). s.empty) e) ∙ h
 
-    -- a cell was emptied
-    pub lay-contradicted : pile.empty ≡ true → stage_of i.table.count contradiction_code m' ≡ lay_at i f (state_in i.table.count m)
-    unfolding stage_of lay_at
-    lay-contradicted h = sym (ap (λ (b : Bool). cond b contradicted (standing after)) (after-empty h))
-
     -- where no cell was emptied nothing is pending
     nothing-pending : pile.empty ≡ false → after.pending ≡ []
     unfolding laid
@@ -160,32 +164,32 @@ module _ {i : Given} {m : Memory} (S : Standing i m) where
         (reduced_by-settled i S.laid.lawful.accepted (asked i.table.count f) (state_in i.table.count m)
         (asked-inside i.table.count (cells i.grid) f (omega (arith, S.measured.domains)) hp) (standing-settled.ready refl)).ended (after-empty h)
 
-    -- so the slices stand for it alone
-    pub lay-standing : pile.empty ≡ false → stage_of i.table.count 0 m' ≡ lay_at i f (state_in i.table.count m)
+    -- so the slices stand for it alone, where none was emptied
+    pub lay-stage : stage_of i.table.count pile.empty m' ≡ lay_at i f (state_in i.table.count m)
     unfolding stage_of lay_at
-    lay-standing h =
-        ap standing
-        (subst (λ (p : Pile). state_of i.table.count m'.domains m'.counts m'.pending p (beside_in (length m'.domains) m'.floats m'.marks) ≡ after)
-        (pile_idle i.table.count m'.pending pile h (ap (λ (s : State Beside). s.pending) e ∙ nothing-pending h)) e)
-        ∙ sym (ap (λ (b : Bool). cond b contradicted (standing after)) (after-empty h))
+    lay-stage = go pile.empty refl
+      where
+        go : (b : Bool) → pile.empty ≡ b
+            → cond b contradicted (standing (state_in i.table.count m')) ≡ cond after.empty contradicted (standing after)
+        go true h = sym (ap (λ (b : Bool). cond b contradicted (standing after)) (after-empty h))
+        go false h =
+            ap standing
+            (subst (λ (p : Pile). state_of i.table.count m'.domains m'.counts m'.pending p (beside_in (length m'.domains) m'.floats m'.marks) ≡ after)
+            (pile_idle i.table.count m'.pending pile h (ap (λ (s : State Beside). s.pending) e ∙ nothing-pending h)) e)
+            ∙ sym (ap (λ (b : Bool). cond b contradicted (standing after)) (after-empty h))
 
   -- ---- the turns; they stop over the domains D
 
   module _ (words : List ℕ) (stop : Stop) (D : List ℕ) (e : ended_as stop D ≡ collapse i words (cells i.grid + 1) 0 (state_in i.table.count m)) where
-    -- they stop at an end of the run
-    pub stop-most : stop.end ≤ 3
-    unfolding ended_as
-    stop-most =
-        subst (λ (n : ℕ). n ≤ 3) (sym (ap (λ (x : Ended). x.end) (e ∙ laid-run words S.laid)))
-        (end-most i S.laid.forbids S.laid.lawful words (run_final i S.laid.forbids S.laid.lawful words))
-
     -- the answer tells their end, and the work memory is cleared
-    pub turns_concluded : {told : Asked End} {m' : Memory} {r : Room} → told ≡ answer (record { end = stop.end; used = stop.used })
-        → m' ≡ cleared (cond (eqb stop.end 3) (replicate (length D) 0) D) r → r ≡ room_of m → outcome told m' ≡ concluding i words (standing (state_in i.table.count m)) m
-    unfolding concluding finished ended_as
-    turns_concluded {m' = m'} t c r =
-        let written = cond (eqb stop.end 3) (replicate (length D) 0) D in
-        ap (λ (x : Asked End). outcome x m') t ∙ ap (outcome (answer (record { end = stop.end; used = stop.used }))) (c ∙ ap (cleared written) r)
+    pub turns_concluded : {m' : Memory} {b : Bool} {r : Room} → b ≡ eqb (end_number stop.end) 3
+        → m' ≡ cleared (cond b (replicate (length D) 0) D) r → r ≡ room_of m
+        → outcome (answer_told (Ok stop)) m' ≡ concluding i words (standing (state_in i.table.count m)) m
+    unfolding concluding finished ended_as answer_told
+    turns_concluded {m'} {b} {r} t c q =
+        let written = cond (eqb (end_number stop.end) 3) (replicate (length D) 0) D in
+        ap (outcome (answer (record { end = end_number stop.end; used = stop.used })))
+        (c ∙ ap (λ (x : Bool). cleared (cond x (replicate (length D) 0) D) r) t ∙ ap (cleared written) q)
         ∙ ap (λ (x : Ended). finished x m) e
 
 -- ---- the conclusion
@@ -196,26 +200,8 @@ pub room_same : {R : Type 0} (m : Memory) {domains counts pending floats marks :
     → room domains counts pending floats marks ≡ room_of m
 room_same m (a, (b, (c, (d, (e, _))))) = λ j. room (a j) (b j) (c j) (d j) (e j)
 
-module _ (i : Given) (words : List ℕ) (m : Memory) {code : ℕ} where
-  -- the run goes on: its turns
-  pub conclude-standing : code ≡ 0 → {o : Outcome} → o ≡ concluding i words (standing (state_in i.table.count m)) m
-      → o ≡ concluding i words (stage_of i.table.count code m) m
-  unfolding stage_of
-  conclude-standing z e = e ∙ ap (λ (n : ℕ). concluding i words (stage_of i.table.count n m) m) (sym z)
-
-  -- a forbid emptied a cell: all is zero
-  pub conclude-contradicted : code ≡ contradiction_code → {m' : Memory} → m' ≡ cleared (replicate (length m.domains) 0) (room_of m)
-      → outcome (answer_told (Contradiction 0)) m' ≡ concluding i words (stage_of i.table.count code m) m
-  unfolding stage_of concluding finished answer_told
-  conclude-contradicted z e =
-      ap (outcome (answer (record { end = 3; used = 0 }))) e ∙ ap (λ (n : ℕ). concluding i words (stage_of i.table.count n m) m) (sym z)
-
-  -- refused, all is as it was
-  pub conclude-refused : (code ≡ 0 → ⊥) → (code ≡ contradiction_code → ⊥) → (r : Refusal) → number r ≡ code
-      → outcome (answer_told (Refused r)) m ≡ concluding i words (stage_of i.table.count code m) m
-  unfolding answer_told stage_of concluding
-  conclude-refused z y r e = ap (λ (n : ℕ). outcome (refused n) m) e ∙ go code z y
-    where
-      go : (n : ℕ) → (n ≡ 0 → ⊥) → (n ≡ contradiction_code → ⊥) → outcome (refused n) m ≡ concluding i words (stage_of i.table.count n m) m
-      go zero z y = absurd (z refl)
-      go (suc n) z y = rw (ne_eqb (suc n) contradiction_code y)
+-- a forbid emptied a cell: all is zero
+pub conclude-contradicted : (i : Given) (words : List ℕ) (m : Memory) {m' : Memory} → m' ≡ cleared (replicate (length m.domains) 0) (room_of m)
+    → outcome (answer_told (Ok (record { end = Contradiction; used = 0 }))) m' ≡ concluding i words contradicted m
+unfolding concluding finished answer_told
+conclude-contradicted i words m e = ap (outcome (answer (record { end = 3; used = 0 }))) e

@@ -1,7 +1,8 @@
 -- A call of `run` in stages, as the code goes through them: it is refused or begins, each forbid is laid, and it is concluded.
 -- Follows docs/RULES.md, "Run" and "Refusals". Assumes nothing.
-use Rattle.std.specs.Prelude.{cond, List, [], ◌∷◌, ◌≡◌, ℕ, zero, suc, ◌+◌, eqb, length, replicate}
-use Rattle.refusals.specs.Refusals.{Test, first_of, refused}
+use Rattle.std.specs.Prelude.{Bool, cond, List, [], ◌∷◌, ◌≡◌, ℕ, zero, suc, ◌+◌, eqb, length, replicate, Result, Ok, Err}
+use Rattle.refusals.specs.declared.Refusal.{Refusal}
+use Rattle.refusals.specs.Refusals.{first_of, refused, number}
 use Rattle.grid.specs.Grid.{cells, Sized}
 use Rattle.consistency.specs.Worklist.{State}
 use Rattle.notes.specs.Beside.{Beside, beside_in}
@@ -21,14 +22,15 @@ pub data Stage : Type 0 where
 abbrev pub state_in : ℕ → Memory → State Beside
 state_in P m = state_of P m.domains m.counts m.pending idle (beside_in (length m.domains) m.floats m.marks)
 
--- the code of a contradiction: the greatest of 32 bits, far above any refusal's number
-abbrev pub contradiction_code : ℕ
-contradiction_code = 4294967295
+-- the stage that the answer of the beginning and the lent slices stand for
+unfoldable pub begun_as : ℕ → Result (Unit {0}) Refusal → Memory → Stage
+unfolding number
+begun_as P (Ok u) m = standing (state_in P m)
+begun_as P (Err r) m = refused_at (number r) m
 
--- the stage that a code and the lent slices stand for: 0 while the run goes on, that of a contradiction, a refusal's number otherwise
-unfoldable pub stage_of : ℕ → ℕ → Memory → Stage
-stage_of P zero m = standing (state_in P m)
-stage_of P (suc n) m = cond (eqb (suc n) contradiction_code) contradicted (refused_at (suc n) m)
+-- the stage after a forbid or some, by whether one emptied a cell
+unfoldable pub stage_of : ℕ → Bool → Memory → Stage
+stage_of P empty m = cond empty contradicted (standing (state_in P m))
 
 -- what the slices must be while the run goes on: of the published lengths, and at the state after some forbids
 pub record Standing (i : Given) (m : Memory) : Type 0 where
@@ -41,9 +43,9 @@ pub record Standing (i : Given) (m : Memory) : Type 0 where
 
 -- without a refusal the run begins
 unfoldable pub begin_at : ℕ → Given → Memory → Stage
-unfolding stage_of begun
+unfolding begun
 begin_at zero i m = standing (begun i)
-begin_at (suc n) i m = stage_of i.table.count (suc n) m
+begin_at (suc n) i m = refused_at (suc n) m
 
 -- the number of the first refusal of a call with so many forbids, of which `bad` is that of the forbids
 unfoldable pub first_bad : ℕ → ℕ → Given → Memory → ℕ
@@ -77,8 +79,3 @@ unfolding finished collapse
 concluding i words (refused_at n m) r = outcome (refused n) m
 concluding i words contradicted r = finished (ended 3 0 (replicate (length r.domains) 0)) r
 concluding i words (standing s) r = finished (collapse i words (cells i.grid + 1) 0 s) r
-
--- what the conclusion takes: a code that is a contradiction's or what some tests come to, and, while the run goes on, slices as they must be
-pub record Concluded (i : Given) (code : ℕ) (m : Memory) : Type 0 where
-  pub tested : (code ≡ contradiction_code → ⊥) → (tests : List Test) × (code ≡ first_of tests)
-  pub standing : code ≡ 0 → Standing i m

@@ -6,7 +6,9 @@ ghost use Rattle.grid.specs.Grid.{grid};
 ghost use Rattle.course.specs.Run.{given};
 ghost use Rattle.course.specs.Called.{room, bad_memory, bad_lengths, base_tests};
 
-use refusals::{Refusal, Verdict};
+use adjacency::inner::Table;
+use grid::Grid;
+use refusals::Refusal;
 
 // Whether a slice that a run writes has not its published length; the last five are the lengths of those.
 fn bad_memory(
@@ -38,10 +40,9 @@ fn bad_memory(
 
 // Whether a lent slice has not its published length, or there are over 4,096 forbids.
 fn bad_lengths(
-    count: usize,
+    table: &Table,
     cells: usize,
     weights: &[u32],
-    offsets: &[u32],
     noise: &[u32],
     forbids: usize,
     domains: usize,
@@ -50,13 +51,14 @@ fn bad_lengths(
     floats: usize,
     marks: usize,
 ) -> bool
-    requires { (count ≤ 64) × (cells ≤ 1024) }
-    ensures { result ≡ bad_lengths count cells weights.now offsets.now noise.now forbids (room domains counts pending floats marks) }
+    requires { (table.now.count ≤ 64) × (cells ≤ 1024) }
+    ensures { result ≡ bad_lengths table.now.count cells weights.now table.now.offsets noise.now forbids (room domains counts pending floats marks) }
 {
+    let count = table.count;
     if weights.len() != count {
         return true;
     }
-    if adjacency::inner::bad_offsets(count, offsets) {
+    if table.bad_offsets() {
         return true;
     }
     if noise.len() != cells {
@@ -84,25 +86,34 @@ pub(crate) fn check(
     pending: usize,
     floats: usize,
     marks: usize,
-) -> Verdict
+) -> Result<(), Refusal>
     ensures { number_of result
         ≡ first_of (base_tests (given (table count offsets.now ids.now) weights.now (grid width height mode) noise.now)
         forbids (room domains counts pending floats marks)) }
 {
+    let table = Table {
+        count,
+        offsets,
+        ids,
+    };
+    let grid = Grid {
+        width,
+        height,
+        mode,
+    };
     if adjacency::inner::bad_count(count) {
-        return Verdict::Refused(Refusal::BadCount);
+        return Err(Refusal::BadCount);
     }
-    if grid::inner::bad_size(width, height) {
-        return Verdict::Refused(Refusal::BadSize);
+    if grid.bad_size() {
+        return Err(Refusal::BadSize);
     }
-    if grid::inner::bad_wrap(mode) {
-        return Verdict::Refused(Refusal::BadWrap);
+    if grid.bad_wrap() {
+        return Err(Refusal::BadWrap);
     }
     if bad_lengths(
-        count,
-        height * width,
+        &table,
+        grid.cells(),
         weights,
-        offsets,
         noise,
         forbids,
         domains,
@@ -111,16 +122,16 @@ pub(crate) fn check(
         floats,
         marks,
     ) {
-        return Verdict::Refused(Refusal::BadLength);
+        return Err(Refusal::BadLength);
     }
     if adjacency::inner::over_weight(weights) {
-        return Verdict::Refused(Refusal::BadWeights);
+        return Err(Refusal::BadWeights);
     }
-    if adjacency::inner::bad_list(count, offsets, ids) {
-        return Verdict::Refused(Refusal::BadList);
+    if table.bad_list() {
+        return Err(Refusal::BadList);
     }
-    if adjacency::inner::disagrees(count, offsets, ids) {
-        return Verdict::Refused(Refusal::Disagree);
+    if table.disagrees() {
+        return Err(Refusal::Disagree);
     }
-    Verdict::Accepted
+    Ok(())
 }

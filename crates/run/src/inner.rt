@@ -1,26 +1,24 @@
 // The stages of a call, over plain numbers: refused or begun, a forbid laid, concluded. Whoever holds the forbids goes through them in order.
-// Follows docs/RULES.md, "Run" and "Refusals". A code tells where the call stands: 0 while the run goes on, CONTRADICTION after one, otherwise a refusal's number.
+// Follows docs/RULES.md, "Run" and "Refusals". A refusal ends the call; after a contradiction nothing is left but to write it.
 // Each is lent every slice of the run, read or not, so that whoever holds the forbids lends the same ones each time.
-ghost use Rattle.std.specs.Prelude.{◌≡◌, ◌≤◌, ◌<◌, length};
-ghost use Rattle.refusals.specs.Refusals.{answer};
+ghost use Rattle.std.specs.Prelude.{List, ◌≡◌, ℕ, ◌<◌, length};
+ghost use Rattle.refusals.specs.Refusals.{number_of};
 ghost use Rattle.adjacency.specs.Tables.{table};
 ghost use Rattle.grid.specs.Grid.{grid};
 ghost use Rattle.choice.specs.Observer.{sight_of};
-ghost use Rattle.course.specs.Run.{given, sighted};
+ghost use Rattle.course.specs.Run.{Given, given, sighted};
 ghost use Rattle.forbids.specs.Forbids.{asking};
 ghost use Rattle.course.specs.Called.{memory, outcome};
 ghost use Rattle.run.specs.Answers.{answer_told};
-ghost use Rattle.run.specs.Stages.{state_in, stage_of, standing, Standing, beginning, lay_at, concluding, Concluded};
+ghost use Rattle.run.specs.Stages.{state_in, begun_as, stage_of, contradicted, standing, Standing, beginning, lay_at, concluding};
 
-use crate::Answer;
-use choice::inner::Observed;
-
-// The code of a contradiction (`contradiction_code`), which no refusal has.
-const CONTRADICTION: u32 = 4294967295;
+use crate::{Ending, Stop};
+use choice::inner::Sight;
+use refusals::Refusal;
 
 // Every refusal in order, of which `bad` is that of the forbids; or the run begins.
 pub fn begin(
-    bad: u32,
+    bad: Result<(), Refusal>,
     lent: usize,
     count: usize,
     width: usize,
@@ -36,12 +34,12 @@ pub fn begin(
     pending: &mut [u32],
     floats: &mut [f32],
     marks: &mut [u8],
-) -> u32
-    ensures { stage_of count result (memory domains.new counts.new pending.new floats.new marks.new)
-        ≡ beginning bad lent (given (table count offsets.now ids.now) weights.now (grid width height mode) noise.now)
+) -> Result<(), Refusal>
+    ensures { begun_as count result (memory domains.new counts.new pending.new floats.new marks.new)
+        ≡ beginning (number_of bad) lent (given (table count offsets.now ids.now) weights.now (grid width height mode) noise.now)
         (memory domains.old counts.old pending.old floats.old marks.old) }
 {
-    let refusal = refusals::inner::number_of(crate::check::check(
+    crate::check::check(
         count,
         offsets,
         ids,
@@ -56,13 +54,8 @@ pub fn begin(
         pending.len(),
         floats.len(),
         marks.len(),
-    ));
-    if refusal != 0 {
-        return refusal;
-    }
-    if bad != 0 {
-        return bad;
-    }
+    )?;
+    bad?;
     collapse::inner::begin_state(
         count,
         offsets,
@@ -75,10 +68,10 @@ pub fn begin(
         floats,
         marks,
     );
-    0
+    Ok(())
 }
 
-// A forbid is laid: 0 to go on, or CONTRADICTION.
+// A forbid is laid; whether it emptied a cell, which is a contradiction.
 pub fn lay_one(
     cell: u32,
     pattern: u32,
@@ -97,7 +90,7 @@ pub fn lay_one(
     pending: &mut [u32],
     floats: &mut [f32],
     marks: &mut [u8],
-) -> u32
+) -> bool
     requires { Standing (given (table count offsets.now ids.now) weights.now (grid width height mode) noise.now) (memory domains.old counts.old pending.old floats.old marks.old)
         × (cell < length domains.old) × (pattern < count) }
     ensures { stage_of count result (memory domains.new counts.new pending.new floats.new marks.new)
@@ -127,10 +120,7 @@ pub fn lay_one(
         floats,
         marks,
     );
-    if pile.empty {
-        return CONTRADICTION;
-    }
-    0
+    pile.empty
 }
 
 // What the run observes where it stands, with nothing known of any block. A run's own turns look only where something changed.
@@ -148,7 +138,7 @@ pub fn sight(
     pending: &mut [u32],
     floats: &mut [f32],
     marks: &mut [u8],
-) -> Observed
+) -> Option<Sight>
     requires { Standing (given (table count offsets.now ids.now) weights.now (grid width height mode) noise.now) (memory domains.old counts.old pending.old floats.old marks.old) }
     ensures { (sight_of result ≡ sighted (given (table count offsets.now ids.now) weights.now (grid width height mode) noise.now)
         (state_in count (memory domains.old counts.old pending.old floats.old marks.old)))
@@ -166,9 +156,26 @@ pub fn sight(
     )
 }
 
-// What comes after the forbids: the turns, the answer, and the work memory zero. Refused, nothing is written.
+// What comes after a forbid that emptied a cell: the answer, and all memory zero.
+pub(crate) fn contradict(
+    domains: &mut [u64],
+    counts: &mut [u8],
+    pending: &mut [u32],
+    floats: &mut [f32],
+    marks: &mut [u8],
+) -> Stop
+    ensures { (i : Given) (words : List ℕ) → outcome (answer_told (Ok result)) (memory domains.new counts.new pending.new floats.new marks.new)
+        ≡ concluding i words contradicted (memory domains.old counts.old pending.old floats.old marks.old) }
+{
+    collapse::inner::finish(true, domains, counts, pending, floats, marks);
+    Stop {
+        end: Ending::Contradiction,
+        used: 0,
+    }
+}
+
+// What comes after the forbids otherwise: the turns, the answer, and the work memory zero.
 pub(crate) fn conclude(
-    code: u32,
     count: usize,
     width: usize,
     height: usize,
@@ -183,58 +190,9 @@ pub(crate) fn conclude(
     pending: &mut [u32],
     floats: &mut [f32],
     marks: &mut [u8],
-) -> Answer
-    requires { Concluded (given (table count offsets.now ids.now) weights.now (grid width height mode) noise.now) code (memory domains.old counts.old pending.old floats.old marks.old) }
-    ensures { outcome (answer_told result) (memory domains.new counts.new pending.new floats.new marks.new)
-        ≡ concluding (given (table count offsets.now ids.now) weights.now (grid width height mode) noise.now) words.now
-        (stage_of count code (memory domains.old counts.old pending.old floats.old marks.old))
-        (memory domains.old counts.old pending.old floats.old marks.old) }
-{
-    if code == 0 {
-        return turns(
-            count, width, height, mode, weights, offsets, ids, noise, words, domains, counts,
-            pending, floats, marks,
-        );
-    }
-    if code == CONTRADICTION {
-        collapse::inner::finish(true, domains, counts, pending, floats, marks);
-        return Answer::Contradiction(0);
-    }
-    Answer::Refused(refusals::inner::refusal(code))
-}
-
-// The answer of a run that ends so.
-fn answer(end: u32, used: usize) -> Answer
-    requires { end ≤ 3 }
-    ensures { answer_told result ≡ answer (record { end = end; used = used }) }
-{
-    match end {
-        0 => Answer::Decided(used),
-        1 => Answer::Undecided(used),
-        2 => Answer::Paused(used),
-        _ => Answer::Contradiction(used),
-    }
-}
-
-// The turns of a run that goes on, its answer, and the work memory zero.
-fn turns(
-    count: usize,
-    width: usize,
-    height: usize,
-    mode: usize,
-    weights: &[u32],
-    offsets: &[u32],
-    ids: &[u8],
-    noise: &[u32],
-    words: &[u32],
-    domains: &mut [u64],
-    counts: &mut [u8],
-    pending: &mut [u32],
-    floats: &mut [f32],
-    marks: &mut [u8],
-) -> Answer
+) -> Stop
     requires { Standing (given (table count offsets.now ids.now) weights.now (grid width height mode) noise.now) (memory domains.old counts.old pending.old floats.old marks.old) }
-    ensures { outcome (answer_told result) (memory domains.new counts.new pending.new floats.new marks.new)
+    ensures { outcome (answer_told (Ok result)) (memory domains.new counts.new pending.new floats.new marks.new)
         ≡ concluding (given (table count offsets.now ids.now) weights.now (grid width height mode) noise.now) words.now
         (standing (state_in count (memory domains.old counts.old pending.old floats.old marks.old)))
         (memory domains.old counts.old pending.old floats.old marks.old) }
@@ -256,6 +214,7 @@ fn turns(
         floats,
         marks,
     );
-    collapse::inner::finish(stop.end == 3, domains, counts, pending, floats, marks);
-    answer(stop.end, stop.used)
+    let contradiction = stop.end == Ending::Contradiction;
+    collapse::inner::finish(contradiction, domains, counts, pending, floats, marks);
+    stop
 }

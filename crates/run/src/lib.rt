@@ -10,23 +10,15 @@ ghost use Rattle.course.specs.Called.{memory, outcome, called};
 ghost use Rattle.run.specs.Answers.{answer_told};
 
 use forbids::Forbid;
+use grid::Grid;
 use refusals::Refusal;
 
 mod check;
 pub mod inner;
 mod numbers;
 
+pub use collapse::{Ending, Stop};
 pub use numbers::run_numbers;
-
-// How a run ended, with the number of words that it used; or why there was none.
-#[derive(Clone, Copy)]
-pub enum Answer {
-    Decided(usize),
-    Undecided(usize),
-    Paused(usize),
-    Contradiction(usize),
-    Refused(Refusal),
-}
 
 // A run: refused, or from the forbids to its end.
 // Lengths: P weights, 4 P + 1 offsets, a noise word and a domain for each cell, 4 P counts, P pending removals and 2 floats for each cell, 2 marks
@@ -47,13 +39,18 @@ pub fn run(
     pending: &mut [u32],
     floats: &mut [f32],
     marks: &mut [u8],
-) -> Answer
+) -> Result<Stop, Refusal>
     ensures { outcome (answer_told result) (memory domains.new counts.new pending.new floats.new marks.new)
         ≡ called (given (table count offsets.now ids.now) weights.now (grid width height mode) noise.now) forbids.now words.now
         (memory domains.old counts.old pending.old floats.old marks.old) }
 {
-    let bad = forbids::inner::check_all(forbids, count, width, height);
-    let mut code = inner::begin(
+    let grid = Grid {
+        width,
+        height,
+        mode,
+    };
+    let bad = forbids::inner::check_all(forbids, count, grid);
+    inner::begin(
         bad,
         forbids.len(),
         count,
@@ -70,21 +67,20 @@ pub fn run(
         pending,
         floats,
         marks,
-    );
+    )?;
     let mut i = 0;
     while i < forbids.len() {
-        if code != 0 {
-            break;
-        }
         let f = forbids[i];
-        code = inner::lay_one(
+        if inner::lay_one(
             f.cell, f.pattern, f.keep, count, width, height, mode, weights, offsets, ids, noise,
             words, domains, counts, pending, floats, marks,
-        );
+        ) {
+            return Ok(inner::contradict(domains, counts, pending, floats, marks));
+        }
         i += 1;
     }
-    inner::conclude(
-        code, count, width, height, mode, weights, offsets, ids, noise, words, domains, counts,
-        pending, floats, marks,
-    )
+    Ok(inner::conclude(
+        count, width, height, mode, weights, offsets, ids, noise, words, domains, counts, pending,
+        floats, marks,
+    ))
 }

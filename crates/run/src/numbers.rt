@@ -7,13 +7,15 @@ ghost use Rattle.course.specs.Run.{given};
 ghost use Rattle.forbids.specs.Forbids.{Placed, forbids_of};
 ghost use Rattle.course.specs.Called.{memory, outcome, called_numbers};
 ghost use Rattle.run.specs.Answers.{answer_told};
-ghost use Rattle.run.specs.Stages.{stage_of, lay_all, Concluded};
+ghost use Rattle.run.specs.Stages.{state_in, stage_of, standing, Standing, lay_all};
 
-use crate::Answer;
+use crate::Stop;
+use crate::inner::{begin, conclude, contradict, lay_one};
+use grid::Grid;
+use refusals::Refusal;
 
-// The forbids are laid in order, until one ends the run; a code that is not 0 lays none.
+// The forbids are laid in order, until one empties a cell; whether one did.
 fn lay_numbers(
-    code: u32,
     forbids: &[u32],
     count: usize,
     width: usize,
@@ -29,20 +31,16 @@ fn lay_numbers(
     pending: &mut [u32],
     floats: &mut [f32],
     marks: &mut [u8],
-) -> u32
-    requires { Concluded (given (table count offsets.now ids.now) weights.now (grid width height mode) noise.now) code (memory domains.old counts.old pending.old floats.old marks.old)
-        × (code ≡ 0 → Placed count (cells (grid width height mode)) (forbids_of forbids.now)) }
+) -> bool
+    requires { Standing (given (table count offsets.now ids.now) weights.now (grid width height mode) noise.now) (memory domains.old counts.old pending.old floats.old marks.old)
+        × Placed count (cells (grid width height mode)) (forbids_of forbids.now) }
     ensures { stage_of count result (memory domains.new counts.new pending.new floats.new marks.new)
         ≡ lay_all (given (table count offsets.now ids.now) weights.now (grid width height mode) noise.now) (forbids_of forbids.now)
-        (stage_of count code (memory domains.old counts.old pending.old floats.old marks.old)) }
+        (standing (state_in count (memory domains.old counts.old pending.old floats.old marks.old))) }
 {
-    let mut next = code;
     let mut i = 0;
     while i < forbids.len() / 3 {
-        if next != 0 {
-            return next;
-        }
-        next = crate::inner::lay_one(
+        if lay_one(
             forbids[3 * i],
             forbids[3 * i + 1],
             forbids[3 * i + 2],
@@ -60,10 +58,12 @@ fn lay_numbers(
             pending,
             floats,
             marks,
-        );
+        ) {
+            return true;
+        }
         i += 1;
     }
-    next
+    false
 }
 
 // A run: refused, or from the forbids to its end. Lengths are those of `run`, with three numbers for each forbid.
@@ -83,23 +83,30 @@ pub fn run_numbers(
     pending: &mut [u32],
     floats: &mut [f32],
     marks: &mut [u8],
-) -> Answer
+) -> Result<Stop, Refusal>
     ensures { outcome (answer_told result) (memory domains.new counts.new pending.new floats.new marks.new)
         ≡ called_numbers (given (table count offsets.now ids.now) weights.now (grid width height mode) noise.now) forbids.now words.now
         (memory domains.old counts.old pending.old floats.old marks.old) }
 {
-    let bad = forbids::inner::judge_all(forbids, count, width, height);
+    let grid = Grid {
+        width,
+        height,
+        mode,
+    };
+    let bad = forbids::inner::judge_all(forbids, count, grid);
     let lent = forbids::inner::records_in(forbids);
-    let code = crate::inner::begin(
+    begin(
         bad, lent, count, width, height, mode, weights, offsets, ids, noise, words, domains,
         counts, pending, floats, marks,
-    );
-    let laid = lay_numbers(
-        code, forbids, count, width, height, mode, weights, offsets, ids, noise, words, domains,
-        counts, pending, floats, marks,
-    );
-    crate::inner::conclude(
-        laid, count, width, height, mode, weights, offsets, ids, noise, words, domains, counts,
+    )?;
+    if lay_numbers(
+        forbids, count, width, height, mode, weights, offsets, ids, noise, words, domains, counts,
         pending, floats, marks,
-    )
+    ) {
+        return Ok(contradict(domains, counts, pending, floats, marks));
+    }
+    Ok(conclude(
+        count, width, height, mode, weights, offsets, ids, noise, words, domains, counts, pending,
+        floats, marks,
+    ))
 }

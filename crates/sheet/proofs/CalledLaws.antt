@@ -15,9 +15,9 @@ use Rattle.adjacency.specs.Checks.{bad_count, weights_misfit, offsets_misfit, ov
 use Rattle.grid.specs.Grid.{Grid, grid, bad_size, bad_wrap}
 use Rattle.forbids.specs.Forbids.{forbid_tests, forbids_of, records_in}
 use Rattle.refusals.specs.declared.Refusal.TheVariants.{BadSheet, BadLength}
-use Rattle.refusals.specs.Refusals.{Test, ◌gives◌, number, first_of, refused, answer}
+use Rattle.refusals.specs.Refusals.{◌gives◌, number, number_of, first_of, refused, answer}
 use Rattle.sheet.specs.declared.Measures.{Measures}
-use Rattle.sheet.specs.declared.Written.TheVariants.{Bytes, Refused}
+use Rattle.std.specs.Prelude.{Ok, Err}
 use Rattle.layout.specs.Sheet.{bytes_of}
 use Rattle.layout.specs.Reading.{well_formed, sheet_in}
 use Rattle.layout.specs.Tables.{sheet_for, table_of}
@@ -27,15 +27,14 @@ use Rattle.sheet.proofs.MeasureLaws.{scalars-is}
 use Rattle.records.proofs.LayingLaws.{laid-over}
 use Rattle.layout.proofs.WritingLaws.{fitting-size}
 use Rattle.sheet.proofs.StorableLaws.{storable}
-use Rattle.refusals.proofs.RefusalLaws.{number-positive, first-append, first-most, first-here, first_next, first-empty, checked-accepted, checked_refused}
-use Rattle.sheet.specs.declared.SizesAnswer.TheVariants as sizes
+use Rattle.refusals.proofs.RefusalLaws.{number-positive, number_of-positive, number_of-refused, first-append, first-here, first_next, first-empty, checked-accepted, checked_refused}
 
 module _ (b : List ℕ) where
-  pub sizes-refused : well_formed b ≡ false → sizes_told (sizes.Refused BadSheet) ≡ sizes_asked b
+  pub sizes-refused : well_formed b ≡ false → sizes_told (Err BadSheet) ≡ sizes_asked b
   unfolding sizes_told sizes_asked
   sizes-refused e = sym (checked_refused (form_test b ∷ []) (measured (sheet_in b)) BadSheet (first-here (form_test b) [] (ap not e)))
 
-  pub sizes-told : well_formed b ≡ true → {m : Measures} → m ≡ measured (sheet_in b) → sizes_told (sizes.Sheet m) ≡ sizes_asked b
+  pub sizes-told : well_formed b ≡ true → {m : Measures} → m ≡ measured (sheet_in b) → sizes_told (Ok m) ≡ sizes_asked b
   unfolding sizes_told sizes_asked
   sizes-told e f = ap answer f ∙ sym (checked-accepted (form_test b ∷ []) (measured (sheet_in b)) (first_next (form_test b) [] (ap not e) ∙ first-empty))
 
@@ -88,19 +87,11 @@ module _ (misfit : Bool) (t : Table) (weights : List ℕ) (g : Grid) (forbids : 
       → first_of (sheet_tests misfit t weights g forbids) ≡ first_of (content_tests t weights g forbids)
   sheet-content e m = sheet-split ∙ rw (e, m)
 
--- a number that a chain of tests gives, and that is not 0, names a refusal
-pub names : (ts : List Test) {n : ℕ} → n ≡ first_of ts → (n ≡ 0 → ⊥) → (1 ≤ n) × (n ≤ 11)
-names ts e z = (positive _ z, omega (arith, first-most ts))
-  where
-    positive : (n : ℕ) → (n ≡ 0 → ⊥) → 1 ≤ n
-    positive zero z = absurd (z refl)
-    positive (suc n) z = omega arith
-
 -- ---- write
 
 module _ (t : Table) (weights : List ℕ) (g : Grid) (forbids out : List ℕ) where
   pub write-refused : (r : Refusal) → first_of (write_tests t weights g forbids (length out)) ≡ number r
-      → write_outcome (written_told (Refused r)) out ≡ write_called t weights g forbids out
+      → write_outcome (written_told (Err r)) out ≡ write_called t weights g forbids out
   unfolding written_told write_called write_at
   write-refused r e = sym (rw e (go (number r) (number-positive r)))
     where
@@ -110,31 +101,33 @@ module _ (t : Table) (weights : List ℕ) (g : Grid) (forbids out : List ℕ) wh
 
   pub write-accepted : first_of (write_tests t weights g forbids (length out)) ≡ 0 → length (bytes_of (sheet_for t weights g forbids)) ≤ length out
       → {out' : List ℕ} {n : ℕ} → pen out' n ≡ laid (bytes_of (sheet_for t weights g forbids)) (pen out 0)
-      → write_outcome (written_told (Bytes n)) out' ≡ write_called t weights g forbids out
+      → write_outcome (written_told (Ok n)) out' ≡ write_called t weights g forbids out
   unfolding written_told write_called write_at
   write-accepted e h f =
       ap (λ (p : Pen). write_outcome (answer p.place) p.slice) (f ∙ laid-over (bytes_of (sheet_for t weights g forbids)) out h)
       ∙ sym (rw e)
 
   -- at each end of `write`
-  pub write-scalar : {n : ℕ} → n ≡ first_of (scalar_tests t.count g) → (n ≡ 0 → ⊥) → (r : Refusal) → number r ≡ n
-      → write_outcome (written_told (Refused r)) out ≡ write_called t weights g forbids out
+  pub write-scalar : (r : Refusal) → number_of (Err r) ≡ first_of (scalar_tests t.count g)
+      → write_outcome (written_told (Err r)) out ≡ write_called t weights g forbids out
   unfolding write_tests
-  write-scalar e z r f = write-refused r (sheet-scalar (write_misfit t weights forbids (length out)) t weights g forbids e z ∙ sym f)
+  write-scalar r e =
+      write-refused r (sheet-scalar (write_misfit t weights forbids (length out)) t weights g forbids e (number_of-positive r) ∙ number_of-refused r)
 
   module _ (scalars : first_of (scalar_tests t.count g) ≡ 0) where
-    pub write-length : write_misfit t weights forbids (length out) ≡ true → write_outcome (written_told (Refused BadLength)) out ≡ write_called t weights g forbids out
+    pub write-length : write_misfit t weights forbids (length out) ≡ true → write_outcome (written_told (Err BadLength)) out ≡ write_called t weights g forbids out
     unfolding write_tests number
     write-length m = write-refused BadLength (sheet-length (write_misfit t weights forbids (length out)) t weights g forbids scalars m)
 
     module _ (lengths : write_misfit t weights forbids (length out) ≡ false) where
-      pub write-content : {n : ℕ} → n ≡ first_of (content_tests t weights g forbids) → (r : Refusal) → number r ≡ n
-          → write_outcome (written_told (Refused r)) out ≡ write_called t weights g forbids out
+      pub write-content : (r : Refusal) → number_of (Err r) ≡ first_of (content_tests t weights g forbids)
+          → write_outcome (written_told (Err r)) out ≡ write_called t weights g forbids out
       unfolding write_tests
-      write-content e r f = write-refused r (sheet-content (write_misfit t weights forbids (length out)) t weights g forbids scalars lengths ∙ sym e ∙ sym f)
+      write-content r e =
+          write-refused r (sheet-content (write_misfit t weights forbids (length out)) t weights g forbids scalars lengths ∙ sym e ∙ number_of-refused r)
 
       pub write_done : first_of (content_tests t weights g forbids) ≡ 0 → {out' : List ℕ} {n : ℕ}
-          → pen out' n ≡ laid (bytes_of (sheet_for t weights g forbids)) (pen out 0) → write_outcome (written_told (Bytes n)) out' ≡ write_called t weights g forbids out
+          → pen out' n ≡ laid (bytes_of (sheet_for t weights g forbids)) (pen out 0) → write_outcome (written_told (Ok n)) out' ≡ write_called t weights g forbids out
       unfolding write_tests
       write_done e f =
           let (S, room) = storable t weights g forbids (length out) scalars lengths e in
@@ -150,7 +143,7 @@ unfolding read_misfit
 read_misfit-is m weights offsets ids forbids e f g h = rw (e, f, g, h)
 
 module _ (b : List ℕ) (l : Lent) where
-  read-refused : (r : Refusal) → first_of (read_tests b l) ≡ number r → read_outcome (sizes_told (sizes.Refused r)) l ≡ read_called b l
+  read-refused : (r : Refusal) → first_of (read_tests b l) ≡ number r → read_outcome (sizes_told (Err r)) l ≡ read_called b l
   unfolding sizes_told read_called read_at
   read-refused r e = sym (rw e (go (number r) (number-positive r)))
     where
@@ -159,7 +152,7 @@ module _ (b : List ℕ) (l : Lent) where
       go (suc n) z = refl
 
   -- at each end of `read`
-  pub read-form : well_formed b ≡ false → read_outcome (sizes_told (sizes.Refused BadSheet)) l ≡ read_called b l
+  pub read-form : well_formed b ≡ false → read_outcome (sizes_told (Err BadSheet)) l ≡ read_called b l
   unfolding read_tests
   read-form e = read-refused BadSheet (first-here (form_test b) _ (ap not e))
 
@@ -174,11 +167,13 @@ module _ (b : List ℕ) (l : Lent) where
     scalars-told : {n : ℕ} → n ≡ first_of (scalar_tests m.count (grid m.width m.height m.mode)) → n ≡ first_of (scalar_tests (table_of (sheet_in b)).count (sheet_in b).grid)
     scalars-told g = g ∙ ap first_of (scalars-is (sheet_in b) m f)
 
-    pub read-scalar : {n : ℕ} → n ≡ first_of (scalar_tests m.count (grid m.width m.height m.mode)) → (n ≡ 0 → ⊥) → (r : Refusal) → number r ≡ n
-        → read_outcome (sizes_told (sizes.Refused r)) l ≡ read_called b l
-    read-scalar g z r h =
+    pub read-scalar : (r : Refusal) → number_of (Err r) ≡ first_of (scalar_tests m.count (grid m.width m.height m.mode))
+        → read_outcome (sizes_told (Err r)) l ≡ read_called b l
+    read-scalar r g =
         read-refused r
-        (read_first ∙ sheet-scalar misfit (table_of (sheet_in b)) (sheet_in b).weights (sheet_in b).grid (sheet_in b).forbids (scalars-told g) z ∙ sym h)
+        (read_first
+        ∙ sheet-scalar misfit (table_of (sheet_in b)) (sheet_in b).weights (sheet_in b).grid (sheet_in b).forbids (scalars-told g) (number_of-positive r)
+        ∙ number_of-refused r)
 
     module _ (scalars : first_of (scalar_tests m.count (grid m.width m.height m.mode)) ≡ 0) where
       scalars_none : first_of (scalar_tests (table_of (sheet_in b)).count (sheet_in b).grid) ≡ 0
@@ -189,7 +184,7 @@ module _ (b : List ℕ) (l : Lent) where
       misfit_told g = ap (λ (x : Measures). read_misfit x (length l.weights) (length l.offsets) (length l.ids) (length l.forbids)) (sym f) ∙ g
 
       pub read_length : read_misfit m (length l.weights) (length l.offsets) (length l.ids) (length l.forbids) ≡ true
-          → read_outcome (sizes_told (sizes.Refused BadLength)) l ≡ read_called b l
+          → read_outcome (sizes_told (Err BadLength)) l ≡ read_called b l
       unfolding number
       read_length g =
           read-refused BadLength
@@ -200,11 +195,11 @@ module _ (b : List ℕ) (l : Lent) where
         read-rest =
             read_first ∙ sheet-content misfit (table_of (sheet_in b)) (sheet_in b).weights (sheet_in b).grid (sheet_in b).forbids scalars_none (misfit_told lengths)
 
-        pub read-content : {n : ℕ} → n ≡ first_of (content_tests (table_of (sheet_in b)) (sheet_in b).weights (sheet_in b).grid (sheet_in b).forbids)
-            → (r : Refusal) → number r ≡ n → read_outcome (sizes_told (sizes.Refused r)) l ≡ read_called b l
-        read-content g r h = read-refused r (read-rest ∙ sym g ∙ sym h)
+        pub read-content : (r : Refusal) → number_of (Err r) ≡ first_of (content_tests (table_of (sheet_in b)) (sheet_in b).weights (sheet_in b).grid (sheet_in b).forbids)
+            → read_outcome (sizes_told (Err r)) l ≡ read_called b l
+        read-content r g = read-refused r (read-rest ∙ sym g ∙ number_of-refused r)
 
         pub read_done : first_of (content_tests (table_of (sheet_in b)) (sheet_in b).weights (sheet_in b).grid (sheet_in b).forbids) ≡ 0 → {l' : Lent} → l' ≡ filled (sheet_in b) l
-            → read_outcome (sizes_told (sizes.Sheet m)) l' ≡ read_called b l
+            → read_outcome (sizes_told (Ok m)) l' ≡ read_called b l
         unfolding sizes_told read_called read_at
         read_done g h = (λ j. read_outcome (answer (f j)) (h j)) ∙ sym (rw (read-rest ∙ g))

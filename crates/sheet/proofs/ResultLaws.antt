@@ -2,7 +2,7 @@
 -- Assumes nothing.
 use mathlib.Core.Bool.{Bool, true, false, ◌||◌}
 use mathlib.Core.List.{List, ◌++◌}
-use mathlib.Core.Path.{◌≡◌, refl, sym, ap, ◌∙◌, subst}
+use mathlib.Core.Path.{◌≡◌, refl, sym, ap, ◌∙◌}
 use Prim.Native.Nat.{ℕ, zero, suc, ◌+◌, ◌*◌, ◌≤◌, ◌<◌}
 use native.Mathlib.Omega.{arith}
 use lib.ListN.{length, length-append}
@@ -12,11 +12,11 @@ use Rattle.records.specs.Records.{head_of, record_of}
 use Rattle.records.specs.Laying.{over, Pen, pen, laid}
 use Rattle.refusals.specs.declared.Refusal.{Refusal}
 use Rattle.refusals.specs.declared.Refusal.TheVariants.{BadLength}
-use Rattle.refusals.specs.Refusals.{first_of, number, Asked, refused, answer}
+use Rattle.refusals.specs.Refusals.{first_of, number, number_of, Asked, refused, answer}
 use Rattle.grid.specs.Grid.{Grid, cells}
 use Rattle.forbids.specs.declared.Forbid.{Forbid}
-use Rattle.run.specs.declared.Answer.{Answer}
-use Rattle.run.specs.declared.Answer.TheVariants.{Refused}
+use Rattle.std.specs.Prelude.{Result, Err}
+use Rattle.collapse.specs.declared.Stop.{Stop}
 use Rattle.course.specs.Run.{Given, ended, run_of}
 use Rattle.course.specs.Called.{Memory, room_of, bad_lengths, base_tests, tests_of, End, Outcome, outcome, finished, outcome_at, called_of, called_numbers}
 use Rattle.forbids.specs.Forbids.{forbids_of, records_in}
@@ -26,7 +26,7 @@ use Rattle.sheet.specs.Result.{result_of, short, result_tests, ResultOutcome, re
 use Rattle.records.proofs.NumberLaws.{length-u16, length-u64s}
 use Rattle.records.proofs.RecordLaws.{length-record_of, laid-record}
 use Rattle.records.proofs.LayingLaws.{laid_then, laid-over}
-use Rattle.refusals.proofs.RefusalLaws.{number-positive}
+use Rattle.refusals.proofs.RefusalLaws.{number-positive, number_of-positive, number_of-refused}
 use Rattle.course.proofs.CalledLaws.{called-granted, called-accepted, refused_same}
 use Rattle.run.proofs.AnswerLaws.{answer_told-injective}
 use Rattle.course.proofs.CourseLaws.{run_final, used-choices}
@@ -73,7 +73,7 @@ module _ (i : Given) (ns words : List ℕ) (m : Memory) (out : List ℕ) where
   lengths = bad_lengths i.table.count (cells i.grid) i.weights i.table.offsets i.noise (records_in ns) (room_of m)
 
   result-refused : (r : Refusal) → first_of (result_tests i ns m (length out)) ≡ number r
-      → result_outcome (outcome (answer_told (Refused r)) m) out ≡ result_called i ns words m out
+      → result_outcome (outcome (answer_told (Err r)) m) out ≡ result_called i ns words m out
   unfolding answer_told result_called result_at
   result-refused r e = sym (rw e (go (number r) (number-positive r)))
     where
@@ -82,13 +82,14 @@ module _ (i : Given) (ns words : List ℕ) (m : Memory) (out : List ℕ) where
       go (suc n) z = refl
 
   -- at each end of `run_result`
-  pub result-scalar : {n : ℕ} → n ≡ first_of (scalar_tests i.table.count i.grid) → (n ≡ 0 → ⊥) → (r : Refusal) → number r ≡ n
-      → result_outcome (outcome (answer_told (Refused r)) m) out ≡ result_called i ns words m out
+  pub result-scalar : (r : Refusal) → number_of (Err r) ≡ first_of (scalar_tests i.table.count i.grid)
+      → result_outcome (outcome (answer_told (Err r)) m) out ≡ result_called i ns words m out
   unfolding result_tests
-  result-scalar e z r f = result-refused r (sheet-scalar (lengths || short i.grid (length out)) i.table i.weights i.grid ns e z ∙ sym f)
+  result-scalar r e =
+      result-refused r (sheet-scalar (lengths || short i.grid (length out)) i.table i.weights i.grid ns e (number_of-positive r) ∙ number_of-refused r)
 
   pub result-short : first_of (scalar_tests i.table.count i.grid) ≡ 0 → short i.grid (length out) ≡ true
-      → result_outcome (outcome (answer_told (Refused BadLength)) m) out ≡ result_called i ns words m out
+      → result_outcome (outcome (answer_told (Err BadLength)) m) out ≡ result_called i ns words m out
   unfolding result_tests number
   result-short e h =
       result-refused BadLength (sheet-length (lengths || short i.grid (length out)) i.table i.weights i.grid ns e (ap (λ (b : Bool). lengths || b) h ∙ or-true lengths))
@@ -140,25 +141,10 @@ module _ (end used : ℕ) (domains out : List ℕ) {s₁ s₂ s₃ s₄ : List �
       let whole = laid-record 5 (u16 end ++ (u16 used ++ u64s domains)) (4 + 8 * length domains) out 0 size e₁ rest in
       ap (λ (p : Pen). p.slice) (whole ∙ laid-over (record_of 5 (u16 end ++ (u16 used ++ u64s domains))) out (omega (arith, length-record_of 5 (u16 end ++ (u16 used ++ u64s domains)))))
 
--- of an answer that tells an end: what it asks, and what is written
-module _ {told : Asked End} {end used : ℕ} (e : told ≡ answer (record { end = end; used = used })) where
-  pub end_fits : {cells room : ℕ} → Writable told cells room → end ≤ 3 → (end < 65536) × (used < 65536) × (cells ≤ 1024) × (10 + 8 * cells ≤ room)
-  end_fits {cells} {room} w h =
-      let (few, small, enough) = subst (λ (t : Asked End). Writable t cells room) e w in
-      (omega arith, omega arith, small, enough)
-
-  pub end-over : (domains out : List ℕ) {out' : List ℕ} → out' ≡ over (result_of (ended end used domains)) out → out' ≡ answer_over told domains out
-  unfolding answer_over
-  end-over domains out f = f ∙ ap (λ (t : Asked End). answer_over t domains out) (sym e)
-
-pub refusal-over : {told : Asked End} {n : ℕ} → told ≡ refused n → (domains out : List ℕ) → out ≡ answer_over told domains out
-unfolding answer_over
-refusal-over e domains out = ap (λ (t : Asked End). answer_over t domains out) (sym e)
-
 -- ---- no second outcome fits
 
 -- two outcomes that meet the contract are the same
-pub result-unique : (i : Given) (ns words : List ℕ) (m : Memory) (out : List ℕ) (a b : Answer) (m₁ m₂ : Memory) (out₁ out₂ : List ℕ)
+pub result-unique : (i : Given) (ns words : List ℕ) (m : Memory) (out : List ℕ) (a b : Result Stop Refusal) (m₁ m₂ : Memory) (out₁ out₂ : List ℕ)
     → result_outcome (outcome (answer_told a) m₁) out₁ ≡ result_called i ns words m out
     → result_outcome (outcome (answer_told b) m₂) out₂ ≡ result_called i ns words m out → (a ≡ b) × (m₁ ≡ m₂) × (out₁ ≡ out₂)
 result-unique i ns words m out a b m₁ m₂ out₁ out₂ p q =

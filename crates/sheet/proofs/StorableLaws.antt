@@ -12,7 +12,7 @@ use Rattle.refusals.specs.Refusals.{first_of, Test}
 use Rattle.adjacency.specs.Checks.{bad_count, weights_misfit, offsets_misfit}
 use Rattle.adjacency.specs.Tables.{Table}
 use Rattle.forbids.specs.Forbids.{forbids_of, records_in, place_tests, forbid_tests, Placed}
-use Rattle.grid.specs.Grid.{Grid, Sized}
+use Rattle.grid.specs.Grid.{Grid, Sized, bad_size}
 use Rattle.layout.specs.Lending.{Numbered}
 use Rattle.sheet.specs.Storable.{Storable}
 use Rattle.layout.specs.Tables.{stored}
@@ -63,6 +63,10 @@ unfolding scalar_tests
 scalars-good P g e =
     let (count, (size, (wrap, none))) = first-passed (scalar_tests P g) e in
     (count, sized_of g size wrap)
+
+pub size-good : (P : ℕ) (g : Grid) → first_of (scalar_tests P g) ≡ 0 → bad_size g.width g.height ≡ false
+unfolding scalar_tests
+size-good P g e = (first-passed (scalar_tests P g) e).1.0
 
 -- lengths that are not refused
 lengths_good : (t : Table) (weights forbids : List ℕ) (room : ℕ) → write_misfit t weights forbids room ≡ false

@@ -1,7 +1,8 @@
 -- A sheet that is asked for its sizes, read or written: refusals, answers, and what every lent slice holds afterwards.
 -- Follows docs/RULES.md, "Sheet" and "Refusals". Assumes nothing.
-use Rattle.std.specs.Prelude.{Bool, not, ◌||◌, List, [], ◌∷◌, ◌++◌, ℕ, zero, suc, ◌+◌, ◌*◌, ◌/◌, ltb, eqb, length}
+use Rattle.std.specs.Prelude.{Bool, not, ◌||◌, List, [], ◌∷◌, ◌++◌, ℕ, zero, suc, ◌+◌, ◌*◌, ◌/◌, ltb, eqb, length, Result, Ok, Err}
 use Rattle.records.specs.Laying.{over}
+use Rattle.refusals.specs.declared.Refusal.{Refusal}
 use Rattle.refusals.specs.declared.Refusal.TheVariants.{BadSheet, BadCount, BadSize, BadWrap, BadLength, BadWeights, BadList, Disagree}
 use Rattle.refusals.specs.Refusals.{Test, ◌gives◌, first_of, Asked, refused, answer, number, checked}
 use Rattle.adjacency.specs.Tables.{Table}
@@ -9,14 +10,10 @@ use Rattle.adjacency.specs.Checks.{bad_count, weights_misfit, offsets_misfit, ov
 use Rattle.grid.specs.Grid.{Grid, bad_size, bad_wrap}
 use Rattle.forbids.specs.Forbids.{forbid_tests, forbids_of, records_in}
 use Rattle.sheet.specs.declared.Measures.{Measures}
-use Rattle.sheet.specs.declared.SizesAnswer.{SizesAnswer}
-use Rattle.sheet.specs.declared.Written.{Written}
 use Rattle.layout.specs.Sheet.{Sheet, bytes_of}
 use Rattle.layout.specs.Tables.{table_of, joined, sheet_for}
 use Rattle.layout.specs.Lending.{Lent, filled}
 use Rattle.layout.specs.Reading.{well_formed, sheet_in}
-use Rattle.sheet.specs.declared.SizesAnswer.TheVariants as sizes
-use Rattle.sheet.specs.declared.Written.TheVariants as written
 
 -- ---- refusals
 
@@ -56,10 +53,10 @@ measured s =
     }
 
 -- what an answer tells
-unfoldable pub sizes_told : SizesAnswer → Asked Measures
+unfoldable pub sizes_told : Result Measures Refusal → Asked Measures
 unfolding number
-sizes_told (sizes.Sheet m) = answer m
-sizes_told (sizes.Refused r) = refused (number r)
+sizes_told (Ok m) = answer m
+sizes_told (Err r) = refused (number r)
 
 -- what a call of `sizes` comes to
 unfoldable pub sizes_asked : List ℕ → Asked Measures
@@ -116,10 +113,10 @@ unfolding sheet_tests write_misfit
 write_tests t weights g forbids room = sheet_tests (write_misfit t weights forbids room) t weights g forbids
 
 -- what an answer tells: the number of bytes
-unfoldable pub written_told : Written → Asked ℕ
+unfoldable pub written_told : Result ℕ Refusal → Asked ℕ
 unfolding number
-written_told (written.Bytes n) = answer n
-written_told (written.Refused r) = refused (number r)
+written_told (Ok n) = answer n
+written_told (Err r) = refused (number r)
 
 -- what a call comes to: what is told, and what the output holds
 pub record WriteOutcome : Type 0 where

@@ -1,81 +1,71 @@
 // When a sheet's numbers are refused: the scalars, the lengths that are lent, and the rest. Follows docs/RULES.md, "Refusals".
 ghost use Rattle.std.specs.Prelude.{◌≡◌, ◌+◌, ◌*◌, ◌≤◌, length};
-ghost use Rattle.refusals.specs.Refusals.{first_of};
-ghost use Rattle.adjacency.specs.Tables.{table};
-ghost use Rattle.grid.specs.Grid.{grid};
+ghost use Rattle.refusals.specs.Refusals.{number_of, first_of};
 ghost use Rattle.sheet.specs.Called.{scalar_tests, content_tests, read_misfit, write_misfit};
 
 use crate::Measures;
+use adjacency::inner::Table;
+use grid::Grid;
+use refusals::Refusal;
 
-// The number of the first refusal of count and grid, 0 for none.
-pub(crate) fn judge_scalars(count: usize, width: usize, height: usize, mode: usize) -> u32
-    ensures { result ≡ first_of (scalar_tests count (grid width height mode)) }
+// The first refusal of count and grid.
+pub(crate) fn judge_scalars(count: usize, grid: Grid) -> Result<(), Refusal>
+    ensures { number_of result ≡ first_of (scalar_tests count grid) }
 {
     if adjacency::inner::bad_count(count) {
-        return 3;
+        return Err(Refusal::BadCount);
     }
-    if grid::inner::bad_size(width, height) {
-        return 1;
+    if grid.bad_size() {
+        return Err(Refusal::BadSize);
     }
-    if grid::inner::bad_wrap(mode) {
-        return 2;
+    if grid.bad_wrap() {
+        return Err(Refusal::BadWrap);
     }
-    0
+    Ok(())
 }
 
-// The number of the first refusal of weights, lists and forbids, 0 for none.
+// The first refusal of weights, lists and forbids.
 pub(crate) fn judge_content(
-    count: usize,
+    table: &Table,
     weights: &[u32],
-    offsets: &[u32],
-    ids: &[u8],
-    width: usize,
-    height: usize,
-    mode: usize,
+    grid: Grid,
     forbids: &[u32],
-) -> u32
-    requires { length offsets.now ≡ 4 * count + 1 }
-    ensures { result ≡ first_of (content_tests (table count offsets.now ids.now) weights.now (grid width height mode) forbids.now) }
+) -> Result<(), Refusal>
+    requires { length table.now.offsets ≡ 4 * table.now.count + 1 }
+    ensures { number_of result ≡ first_of (content_tests table.now weights.now grid forbids.now) }
 {
     if adjacency::inner::over_weight(weights) {
-        return 4;
+        return Err(Refusal::BadWeights);
     }
-    if adjacency::inner::bad_list(count, offsets, ids) {
-        return 6;
+    if table.bad_list() {
+        return Err(Refusal::BadList);
     }
-    if adjacency::inner::disagrees(count, offsets, ids) {
-        return 7;
+    if table.disagrees() {
+        return Err(Refusal::Disagree);
     }
-    forbids::inner::judge_all(forbids, count, width, height)
+    forbids::inner::judge_all(forbids, table.count, grid)
 }
 
 // Whether what is lent to be written has not its published length; what is needed is taken off the room bit by bit, so that no sum can wrap.
-pub(crate) fn write_misfit(
-    count: usize,
-    weights: &[u32],
-    offsets: &[u32],
-    ids: &[u8],
-    forbids: &[u32],
-    room: usize,
-) -> bool
-    requires { count ≤ 64 }
-    ensures { result ≡ write_misfit (table count offsets.now ids.now) weights.now forbids.now room }
+pub(crate) fn write_misfit(table: &Table, weights: &[u32], forbids: &[u32], room: usize) -> bool
+    requires { table.now.count ≤ 64 }
+    ensures { result ≡ write_misfit table.now weights.now forbids.now room }
 {
-    if weights.len() != count {
+    if weights.len() != table.count {
         return true;
     }
-    if adjacency::inner::bad_offsets(count, offsets) {
+    if table.bad_offsets() {
         return true;
     }
     let records = forbids::inner::records_in(forbids);
     if 4096 < records {
         return true;
     }
-    let fixed = 32 + 6 * count + 6 * records;
+    let fixed = 32 + 6 * table.count + 6 * records;
     if room < fixed {
         return true;
     }
-    room - fixed < ids.len()
+    room - fixed < table.ids.len()
 }
 
 // Whether slices of these lengths have not the published length, or no room for a sheet of these measures.

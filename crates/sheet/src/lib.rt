@@ -8,6 +8,8 @@ ghost use Rattle.grid.specs.Grid.{grid};
 ghost use Rattle.layout.specs.Lending.{lent};
 ghost use Rattle.sheet.specs.Called.{sizes_told, sizes_asked, read_outcome, read_called, written_told, write_outcome, write_called};
 
+use adjacency::inner::Table;
+use grid::Grid;
 use refusals::Refusal;
 
 mod check;
@@ -17,7 +19,7 @@ mod result;
 pub use result::run_result;
 
 // How much a sheet holds: patterns, ids, the grid, and forbids.
-#[derive(Clone, Copy)]
+#[derive(Clone, Copy, Debug, PartialEq, Eq)]
 pub struct Measures {
     pub count: usize,
     pub ids: usize,
@@ -27,28 +29,14 @@ pub struct Measures {
     pub forbids: usize,
 }
 
-// The same, or why it cannot be said.
-#[derive(Clone, Copy)]
-pub enum SizesAnswer {
-    Sheet(Measures),
-    Refused(Refusal),
-}
-
-// How many bytes were written, or why none were.
-#[derive(Clone, Copy)]
-pub enum Written {
-    Bytes(usize),
-    Refused(Refusal),
-}
-
 // How much a sheet holds, so that a caller can lend room for it.
-pub fn sizes(sheet: &[u8]) -> SizesAnswer
+pub fn sizes(sheet: &[u8]) -> Result<Measures, Refusal>
     ensures { sizes_told result ≡ sizes_asked sheet.now }
 {
     if !layout::inner::shape::well_formed(sheet) {
-        return SizesAnswer::Refused(Refusal::BadSheet);
+        return Err(Refusal::BadSheet);
     }
-    SizesAnswer::Sheet(reading::measure(sheet))
+    Ok(reading::measure(sheet))
 }
 
 // The sheet's weights, offsets, ids and forbids in the lent slices, and how much it holds.
@@ -59,27 +47,26 @@ pub fn read(
     offsets: &mut [u32],
     ids: &mut [u8],
     forbids: &mut [u32],
-) -> SizesAnswer
+) -> Result<Measures, Refusal>
     ensures { read_outcome (sizes_told result) (lent weights.new offsets.new ids.new forbids.new)
         ≡ read_called sheet.now (lent weights.old offsets.old ids.old forbids.old) }
 {
     if !layout::inner::shape::well_formed(sheet) {
-        return SizesAnswer::Refused(Refusal::BadSheet);
+        return Err(Refusal::BadSheet);
     }
     let m = reading::measure(sheet);
-    let refusal = check::judge_scalars(m.count, m.width, m.height, m.mode);
-    if refusal != 0 {
-        return SizesAnswer::Refused(refusals::inner::refusal(refusal));
-    }
+    let grid = Grid {
+        width: m.width,
+        height: m.height,
+        mode: m.mode,
+    };
+    check::judge_scalars(m.count, grid)?;
     if check::read_misfit(m, weights.len(), offsets.len(), ids.len(), forbids.len()) {
-        return SizesAnswer::Refused(Refusal::BadLength);
+        return Err(Refusal::BadLength);
     }
-    let refusal = reading::judge_sheet(sheet);
-    if refusal != 0 {
-        return SizesAnswer::Refused(refusals::inner::refusal(refusal));
-    }
+    reading::judge_sheet(sheet)?;
     layout::inner::filling::fill(sheet, weights, offsets, ids, forbids);
-    SizesAnswer::Sheet(m)
+    Ok(m)
 }
 
 // The sheet of a table with its weights, a grid and forbids, at the front of `out`; three numbers for each forbid: cell, pattern, and 0 to
@@ -94,22 +81,24 @@ pub fn write(
     mode: usize,
     forbids: &[u32],
     out: &mut [u8],
-) -> Written
+) -> Result<usize, Refusal>
     ensures { write_outcome (written_told result) out.new
         ≡ write_called (table count offsets.now ids.now) weights.now (grid width height mode) forbids.now out.old }
 {
-    let refusal = check::judge_scalars(count, width, height, mode);
-    if refusal != 0 {
-        return Written::Refused(refusals::inner::refusal(refusal));
+    let table = Table {
+        count,
+        offsets,
+        ids,
+    };
+    let grid = Grid {
+        width,
+        height,
+        mode,
+    };
+    check::judge_scalars(count, grid)?;
+    if check::write_misfit(&table, weights, forbids, out.len()) {
+        return Err(Refusal::BadLength);
     }
-    if check::write_misfit(count, weights, offsets, ids, forbids, out.len()) {
-        return Written::Refused(Refusal::BadLength);
-    }
-    let refusal = check::judge_content(count, weights, offsets, ids, width, height, mode, forbids);
-    if refusal != 0 {
-        return Written::Refused(refusals::inner::refusal(refusal));
-    }
-    Written::Bytes(layout::inner::writing::lay_sheet(
-        count, weights, offsets, ids, width, height, mode, forbids, out,
-    ))
+    check::judge_content(&table, weights, grid, forbids)?;
+    Ok(layout::inner::writing::lay_sheet(&table, weights, grid, forbids, out))
 }

@@ -1,15 +1,18 @@
 // How much a sheet holds, and whether what it says is refused. Follows docs/RULES.md, "Sheet" and "Refusals".
 ghost use Rattle.std.specs.Prelude.{true, ◌≡◌, ◌≤◌};
-ghost use Rattle.refusals.specs.Refusals.{first_of};
+ghost use Rattle.refusals.specs.Refusals.{number_of, first_of};
 ghost use Rattle.layout.specs.Tables.{table_of};
 ghost use Rattle.layout.specs.Reading.{count_in, well_formed, sheet_in};
 ghost use Rattle.sheet.specs.Called.{content_tests, measured};
 
 use crate::Measures;
 use crate::check::judge_content;
+use adjacency::inner::Table;
+use grid::Grid;
 use layout::inner::filling::fill;
 use layout::inner::shape::{count_of, forbids_of, grid_of, lists_of};
 use records::inner::u16_at;
+use refusals::Refusal;
 
 // How much a sheet holds.
 pub(crate) fn measure(sheet: &[u8]) -> Measures
@@ -30,11 +33,11 @@ pub(crate) fn measure(sheet: &[u8]) -> Measures
     }
 }
 
-// The number of the first refusal of what a sheet says, 0 for none. It is read into memory of its own, so that lent memory stays as it is:
+// The first refusal of what a sheet says. It is read into memory of its own, so that lent memory stays as it is:
 // 64 weights, 257 offsets, 256 lists of at most 255 ids, and 4,096 forbids.
-pub(crate) fn judge_sheet(sheet: &[u8]) -> u32
+pub(crate) fn judge_sheet(sheet: &[u8]) -> Result<(), Refusal>
     requires { (well_formed sheet.now ≡ true) × (count_in sheet.now ≤ 64) }
-    ensures { result ≡ first_of (content_tests (table_of (sheet_in sheet.now)) (sheet_in sheet.now).weights (sheet_in sheet.now).grid
+    ensures { number_of result ≡ first_of (content_tests (table_of (sheet_in sheet.now)) (sheet_in sheet.now).weights (sheet_in sheet.now).grid
         (sheet_in sheet.now).forbids) }
 {
     let mut weights = [0u32; 64];
@@ -47,14 +50,15 @@ pub(crate) fn judge_sheet(sheet: &[u8]) -> u32
     let starts = 4 * count + 1;
     let last = m.ids;
     let numbers = 3 * m.forbids;
-    judge_content(
+    let table = Table {
         count,
-        &weights[..count],
-        &offsets[..starts],
-        &ids[..last],
-        m.width,
-        m.height,
-        m.mode,
-        &forbids[..numbers],
-    )
+        offsets: &offsets[..starts],
+        ids: &ids[..last],
+    };
+    let grid = Grid {
+        width: m.width,
+        height: m.height,
+        mode: m.mode,
+    };
+    judge_content(&table, &weights[..count], grid, &forbids[..numbers])
 }

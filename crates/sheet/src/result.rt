@@ -7,35 +7,24 @@ ghost use Rattle.grid.specs.Grid.{grid};
 ghost use Rattle.course.specs.Run.{given, ended};
 ghost use Rattle.course.specs.Called.{memory, outcome};
 ghost use Rattle.run.specs.Answers.{answer_told};
-ghost use Rattle.sheet.specs.Result.{result_of, result_outcome, result_called, answer_over, Writable};
+ghost use Rattle.collapse.specs.Endings.{end_number};
+ghost use Rattle.sheet.specs.Result.{result_of, result_outcome, result_called};
 
+use grid::Grid;
 use records::inner::{lay_head, lay_u16, lay_words};
 use refusals::Refusal;
-use run::Answer;
+use run::Stop;
 
 // The result's record at the front.
-fn lay_result(end: usize, used: usize, domains: &[u64], out: &mut [u8])
-    requires { (end < 65536) × (used < 65536) × (length domains.now ≤ 1024) × (10 + 8 * length domains.now ≤ length out.old) }
-    ensures { out.new ≡ over (result_of (ended end used domains.now)) out.old }
+fn lay_result(stop: Stop, domains: &[u64], out: &mut [u8])
+    requires { (stop.used < 65536) × (length domains.now ≤ 1024) × (10 + 8 * length domains.now ≤ length out.old) }
+    ensures { out.new ≡ over (result_of (ended (end_number stop.end) stop.used domains.now)) out.old }
 {
+    let end = u32::from(stop.end) as usize;
     let place = lay_head(5, 4 + 8 * domains.len(), out, 0);
     let place = lay_u16(end, out, place);
-    let place = lay_u16(used, out, place);
+    let place = lay_u16(stop.used, out, place);
     lay_words(domains, out, place);
-}
-
-// The result of an answer; a refusal writes nothing.
-fn lay_answer(answer: Answer, domains: &[u64], out: &mut [u8])
-    requires { Writable (answer_told answer) (length domains.now) (length out.old) }
-    ensures { out.new ≡ answer_over (answer_told answer) domains.now out.old }
-{
-    match answer {
-        Answer::Decided(used) => lay_result(0, used, domains, out),
-        Answer::Undecided(used) => lay_result(1, used, domains, out),
-        Answer::Paused(used) => lay_result(2, used, domains, out),
-        Answer::Contradiction(used) => lay_result(3, used, domains, out),
-        Answer::Refused(_) => {}
-    }
 }
 
 // A run as `run::run_numbers` does it, with its result at the front of `out`; three numbers for each forbid.
@@ -57,22 +46,24 @@ pub fn run_result(
     floats: &mut [f32],
     marks: &mut [u8],
     out: &mut [u8],
-) -> Answer
+) -> Result<Stop, Refusal>
     ensures { result_outcome (outcome (answer_told result) (memory domains.new counts.new pending.new floats.new marks.new)) out.new
         ≡ result_called (given (table count offsets.now ids.now) weights.now (grid width height mode) noise.now) forbids.now words.now
         (memory domains.old counts.old pending.old floats.old marks.old) out.old }
 {
-    let refusal = crate::check::judge_scalars(count, width, height, mode);
-    if refusal != 0 {
-        return Answer::Refused(refusals::inner::refusal(refusal));
+    let grid = Grid {
+        width,
+        height,
+        mode,
+    };
+    crate::check::judge_scalars(count, grid)?;
+    if out.len() < 10 + 8 * grid.cells() {
+        return Err(Refusal::BadLength);
     }
-    if out.len() < 10 + 8 * (height * width) {
-        return Answer::Refused(Refusal::BadLength);
-    }
-    let answer = run::run_numbers(
+    let stop = run::run_numbers(
         forbids, count, width, height, mode, weights, offsets, ids, noise, words, domains, counts,
         pending, floats, marks,
-    );
-    lay_answer(answer, domains, out);
-    answer
+    )?;
+    lay_result(stop, domains, out);
+    Ok(stop)
 }

@@ -9,7 +9,8 @@ use Rattle.refusals.specs.declared.Refusal.{Refusal}
 use Rattle.refusals.specs.Refusals.{number, refused, answer}
 use Rattle.adjacency.specs.Tables.{Table}
 use Rattle.grid.specs.Grid.{Grid}
-use Rattle.starting.specs.declared.Propagated.TheVariants.{Consistent, Contradiction, Refused}
+use Rattle.std.specs.Prelude.{Ok, Err}
+use Rattle.starting.specs.declared.Propagated.TheVariants.{Consistent, Contradiction}
 use Rattle.starting.specs.Propagate.{propagate_refusal, propagated_told, outcome, outcome_at, propagate_of}
 use Rattle.refusals.proofs.RefusalLaws.{number-positive}
 
@@ -24,7 +25,7 @@ module _ (t : Table) (g : Grid) (D counts pending : List ℕ) where
       go (suc n) h = refl
 
   pub told-refused : (r : Refusal) → propagate_refusal t g D (length counts) (length pending) ≡ number r
-      → outcome (propagated_told (Refused r)) D counts pending ≡ propagate_of t g D counts pending
+      → outcome (propagated_told (Err r)) D counts pending ≡ propagate_of t g D counts pending
   unfolding propagated_told
   told-refused r e = sym (outcome-refused r e)
 
@@ -34,10 +35,10 @@ module _ (t : Table) (g : Grid) (D counts pending : List ℕ) where
     outcome-accepted = ap (λ (n : ℕ). outcome_at n t g D counts pending) e
 
     module _ {empty : Bool} {D' counts' pending' : List ℕ} (is : outcome (answer empty) D' counts' pending' ≡ outcome_at 0 t g D counts pending) where
-      pub told-empty : empty ≡ true → outcome (propagated_told Contradiction) D' counts' pending' ≡ propagate_of t g D counts pending
+      pub told-empty : empty ≡ true → outcome (propagated_told (Ok Contradiction)) D' counts' pending' ≡ propagate_of t g D counts pending
       unfolding propagated_told
       told-empty h = ap (λ (b : Bool). outcome (answer b) D' counts' pending') (sym h) ∙ is ∙ sym outcome-accepted
 
-      pub told-whole : empty ≡ false → outcome (propagated_told Consistent) D' counts' pending' ≡ propagate_of t g D counts pending
+      pub told-whole : empty ≡ false → outcome (propagated_told (Ok Consistent)) D' counts' pending' ≡ propagate_of t g D counts pending
       unfolding propagated_told
       told-whole h = ap (λ (b : Bool). outcome (answer b) D' counts' pending') (sym h) ∙ is ∙ sym outcome-accepted

@@ -2,7 +2,6 @@
 -- a refusal changes nothing, and no second outcome fits. Follows docs/RULES.md, "Propagation" and "Refusals". Assumes nothing.
 use mathlib.Core.Bool.{Bool, true, false}
 use mathlib.Core.List.{List}
-use mathlib.Core.Option.{some}
 use mathlib.Core.Path.{◌≡◌, refl, sym, ap, subst, ◌∙◌}
 use Prim.Native.Nat.{ℕ, zero, suc, ◌<◌}
 use lib.ListN.{length, get_or, replicate}
@@ -14,8 +13,10 @@ use Rattle.grid.specs.Grid.{Grid, cells, neighbour}
 use Rattle.consistency.specs.Domains.{possible, Fit, Sub, emptied}
 use Rattle.consistency.specs.Consistent.{Greatest}
 use Rattle.consistency.specs.Forget.{nothing}
+use Rattle.std.specs.Prelude.{Result, Ok, Err, Some}
+use Rattle.refusals.specs.declared.Refusal.{Refusal}
 use Rattle.starting.specs.declared.Propagated.{Propagated}
-use Rattle.starting.specs.declared.Propagated.TheVariants.{Consistent, Contradiction, Refused}
+use Rattle.starting.specs.declared.Propagated.TheVariants.{Consistent, Contradiction}
 use Rattle.starting.specs.Propagate.{reduced_from, propagate_refusal, propagated_told, Outcome, outcome, outcome_at, propagate_of}
 use Rattle.refusals.proofs.RefusalLaws.{number-injective}
 use Rattle.consistency.proofs.DomainLaws.{settled-empty, settled-whole}
@@ -75,7 +76,7 @@ module _ (t : Table) (g : Grid) where
     -- and where each cell is left with one pattern, no list is violated
     pub propagate_solved : (propagate_of t g D counts pending).told ≡ answer false
         → ((c : ℕ) → c < cells g → how_many t.count (get_or (propagate_of t g D counts pending).domains c 0) ≡ 1)
-        → (c p d n q : ℕ) → d < 4 → neighbour g c d ≡ some n
+        → (c p d n q : ℕ) → d < 4 → neighbour g c d ≡ Some n
         → possible (propagate_of t g D counts pending).domains c p ≡ 1 → possible (propagate_of t g D counts pending).domains n q ≡ 1 → InList t p d q
     propagate_solved e =
         let left = propagate-consistent e in
@@ -111,20 +112,20 @@ module _ (t : Table) (g : Grid) where
 
 -- ---- no second outcome fits
 
-pub propagated_told-injective : (r s : Propagated) → propagated_told r ≡ propagated_told s → r ≡ s
+pub propagated_told-injective : (r s : Result Propagated Refusal) → propagated_told r ≡ propagated_told s → r ≡ s
 unfolding propagated_told
-propagated_told-injective Consistent Consistent e = refl
-propagated_told-injective Consistent Contradiction e = cc
-propagated_told-injective Consistent (Refused s) e = cc
-propagated_told-injective Contradiction Consistent e = cc
-propagated_told-injective Contradiction Contradiction e = refl
-propagated_told-injective Contradiction (Refused s) e = cc
-propagated_told-injective (Refused r) Consistent e = cc
-propagated_told-injective (Refused r) Contradiction e = cc
-propagated_told-injective (Refused r) (Refused s) e = ap Refused (number-injective r s (cc))
+propagated_told-injective (Ok Consistent) (Ok Consistent) e = refl
+propagated_told-injective (Ok Consistent) (Ok Contradiction) e = cc
+propagated_told-injective (Ok Consistent) (Err s) e = cc
+propagated_told-injective (Ok Contradiction) (Ok Consistent) e = cc
+propagated_told-injective (Ok Contradiction) (Ok Contradiction) e = refl
+propagated_told-injective (Ok Contradiction) (Err s) e = cc
+propagated_told-injective (Err r) (Ok Consistent) e = cc
+propagated_told-injective (Err r) (Ok Contradiction) e = cc
+propagated_told-injective (Err r) (Err s) e = ap Err (number-injective r s (cc))
 
 -- two answers with what they leave in the lent slices, both as the contract of `propagate` says, are the same
-pub propagate-unique : (t : Table) (g : Grid) (D counts pending : List ℕ) (r₁ r₂ : Propagated) (D₁ D₂ counts₁ counts₂ pending₁ pending₂ : List ℕ)
+pub propagate-unique : (t : Table) (g : Grid) (D counts pending : List ℕ) (r₁ r₂ : Result Propagated Refusal) (D₁ D₂ counts₁ counts₂ pending₁ pending₂ : List ℕ)
     → outcome (propagated_told r₁) D₁ counts₁ pending₁ ≡ propagate_of t g D counts pending → outcome (propagated_told r₂) D₂ counts₂ pending₂ ≡ propagate_of t g D counts pending
     → (r₁ ≡ r₂) × (D₁ ≡ D₂) × (counts₁ ≡ counts₂) × (pending₁ ≡ pending₂)
 propagate-unique t g D counts pending r₁ r₂ D₁ D₂ counts₁ counts₂ pending₁ pending₂ a b =

@@ -1,8 +1,9 @@
 -- Propagation of starting domains: its refusals, its answer, and what every lent slice holds after it. Follows docs/RULES.md, "Propagation" and "Refusals".
 -- Assumes nothing.
-use Rattle.std.specs.Prelude.{Bool, true, false, not, ◌||◌, List, [], ◌∷◌, ℕ, zero, suc, ◌*◌, eqb, length, replicate}
+use Rattle.std.specs.Prelude.{Bool, true, false, not, ◌||◌, List, [], ◌∷◌, ℕ, zero, suc, ◌*◌, eqb, length, replicate, Result, Ok, Err}
 use Rattle.loops.specs.Tests.{every}
 use Rattle.words.specs.Words.{beyond}
+use Rattle.refusals.specs.declared.Refusal.{Refusal}
 use Rattle.refusals.specs.declared.Refusal.TheVariants.{BadSize, BadWrap, BadCount, BadLength, BadList, Disagree, BadPattern}
 use Rattle.refusals.specs.Refusals.{Test, ◌gives◌, first_of, Asked, refused, answer, number}
 use Rattle.adjacency.specs.Tables.{Table}
@@ -13,7 +14,7 @@ use Rattle.consistency.specs.Worklist.{State}
 use Rattle.consistency.specs.Start.{missing, reduced}
 use Rattle.consistency.specs.Forget.{nothing}
 use Rattle.starting.specs.declared.Propagated.{Propagated}
-use Rattle.starting.specs.declared.Propagated.TheVariants.{Consistent, Contradiction, Refused}
+use Rattle.starting.specs.declared.Propagated.TheVariants.{Consistent, Contradiction}
 
 -- the work list, from full domains less what the starting domains lack
 unfoldable pub reduced_from : Table → Grid → List ℕ → State (Unit {0})
@@ -53,11 +54,11 @@ propagate_refusal t g domains counts pending = first_of (propagate_tests t g dom
 -- ---- the outcome
 
 -- the number, or whether it is a contradiction
-unfoldable pub propagated_told : Propagated → Asked Bool
+unfoldable pub propagated_told : Result Propagated Refusal → Asked Bool
 unfolding number
-propagated_told Consistent = answer false
-propagated_told Contradiction = answer true
-propagated_told (Refused r) = refused (number r)
+propagated_told (Ok Consistent) = answer false
+propagated_told (Ok Contradiction) = answer true
+propagated_told (Err r) = refused (number r)
 
 pub record Outcome : Type 0 where
   pub told : Asked Bool

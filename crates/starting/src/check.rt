@@ -5,21 +5,17 @@ ghost use Rattle.adjacency.specs.Tables.{table};
 ghost use Rattle.grid.specs.Grid.{grid};
 ghost use Rattle.starting.specs.Propagate.{bad_lengths, bad_domains, propagate_refusal};
 
-use refusals::{Refusal, Verdict};
+use adjacency::inner::Table;
+use grid::Grid;
+use refusals::Refusal;
 
 // Whether a lent slice has not its published length; `domains`, `counts` and `pending` are the lengths of those.
-fn bad_lengths(
-    count: usize,
-    offsets: &[u32],
-    cells: usize,
-    domains: usize,
-    counts: usize,
-    pending: usize,
-) -> bool
-    requires { (count ≤ 64) × (cells ≤ 1024) }
-    ensures { result ≡ bad_lengths count offsets.now cells domains counts pending }
+fn bad_lengths(table: &Table, cells: usize, domains: usize, counts: usize, pending: usize) -> bool
+    requires { (table.now.count ≤ 64) × (cells ≤ 1024) }
+    ensures { result ≡ bad_lengths table.now.count table.now.offsets cells domains counts pending }
 {
-    if adjacency::inner::bad_offsets(count, offsets) {
+    let count = table.count;
+    if table.bad_offsets() {
         return true;
     }
     if domains != cells {
@@ -57,37 +53,40 @@ pub(crate) fn check(
     domains: &[u64],
     counts: usize,
     pending: usize,
-) -> Verdict
+) -> Result<(), Refusal>
     ensures { number_of result
         ≡ propagate_refusal (table count offsets.now ids.now) (grid width height mode) domains.now counts pending }
 {
-    if adjacency::inner::bad_count(count) {
-        return Verdict::Refused(Refusal::BadCount);
-    }
-    if grid::inner::bad_size(width, height) {
-        return Verdict::Refused(Refusal::BadSize);
-    }
-    if grid::inner::bad_wrap(mode) {
-        return Verdict::Refused(Refusal::BadWrap);
-    }
-    if bad_lengths(
+    let table = Table {
         count,
         offsets,
-        height * width,
-        domains.len(),
-        counts,
-        pending,
-    ) {
-        return Verdict::Refused(Refusal::BadLength);
+        ids,
+    };
+    let grid = Grid {
+        width,
+        height,
+        mode,
+    };
+    if adjacency::inner::bad_count(count) {
+        return Err(Refusal::BadCount);
     }
-    if adjacency::inner::bad_list(count, offsets, ids) {
-        return Verdict::Refused(Refusal::BadList);
+    if grid.bad_size() {
+        return Err(Refusal::BadSize);
     }
-    if adjacency::inner::disagrees(count, offsets, ids) {
-        return Verdict::Refused(Refusal::Disagree);
+    if grid.bad_wrap() {
+        return Err(Refusal::BadWrap);
+    }
+    if bad_lengths(&table, grid.cells(), domains.len(), counts, pending) {
+        return Err(Refusal::BadLength);
+    }
+    if table.bad_list() {
+        return Err(Refusal::BadList);
+    }
+    if table.disagrees() {
+        return Err(Refusal::Disagree);
     }
     if bad_domains(count, domains) {
-        return Verdict::Refused(Refusal::BadPattern);
+        return Err(Refusal::BadPattern);
     }
-    Verdict::Accepted
+    Ok(())
 }

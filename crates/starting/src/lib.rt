@@ -8,18 +8,17 @@ ghost use Rattle.adjacency.specs.Tables.{table};
 ghost use Rattle.grid.specs.Grid.{grid};
 ghost use Rattle.starting.specs.Propagate.{outcome, propagated_told, propagate_of};
 
-use refusals::{Refusal, Verdict};
+use refusals::Refusal;
 
 mod check;
 mod given;
 mod settle;
 
-// What propagation of starting domains answers.
-#[derive(Clone, Copy)]
+// What propagation of starting domains comes to.
+#[derive(Clone, Copy, Debug, PartialEq, Eq)]
 pub enum Propagated {
     Consistent,
     Contradiction,
-    Refused(Refusal),
 }
 
 // Propagates starting domains: what remains of them, or all zero where a cell is left empty. Work memory ends as zero.
@@ -34,12 +33,12 @@ pub fn propagate(
     domains: &mut [u64],
     counts: &mut [u8],
     pending: &mut [u32],
-) -> Propagated
+) -> Result<Propagated, Refusal>
     ensures { outcome (propagated_told result) domains.new counts.new pending.new
         ≡ propagate_of (table count offsets.now ids.now) (grid width height mode)
         domains.old counts.old pending.old }
 {
-    let verdict = check::check(
+    check::check(
         count,
         offsets,
         ids,
@@ -49,17 +48,12 @@ pub fn propagate(
         domains,
         counts.len(),
         pending.len(),
+    )?;
+    let contradiction = settle::settle(
+        count, offsets, ids, width, height, mode, domains, counts, pending,
     );
-    match verdict {
-        Verdict::Refused(refusal) => Propagated::Refused(refusal),
-        Verdict::Accepted => {
-            let contradiction = settle::settle(
-                count, offsets, ids, width, height, mode, domains, counts, pending,
-            );
-            if contradiction {
-                return Propagated::Contradiction;
-            }
-            Propagated::Consistent
-        }
+    if contradiction {
+        return Ok(Propagated::Contradiction);
     }
+    Ok(Propagated::Consistent)
 }

@@ -19,12 +19,17 @@ use Rattle.layout.specs.Tables.{table_of}
 use Rattle.sheet.specs.Called.{form_test, sheet_tests}
 use Rattle.sheet.specs.Result.{result_of}
 use Rattle.bounded.specs.Laid.{Told, too_large, refused, answer, onward, sheet_refusal, large, taken_at, taken_of, ran_of, laid_of, Finish, finish, Outcome, outcome, laid_told, laid_at}
+use Rattle.std.specs.Prelude.{Result, Ok, Err}
+use Rattle.refusals.specs.declared.Refusal.{Refusal}
+use Rattle.refusals.specs.Refusals.{number}
+use Rattle.collapse.specs.Endings.{end_number}
+use Rattle.bounded.specs.declared.inner.Unfit.{Unfit}
 use Rattle.bounded.specs.declared.inner.Laid.{Laid}
 use Rattle.stream.specs.Cases.{answer_of}
 use Rattle.refusals.proofs.RefusalLaws.{first-most}
 use Rattle.records.proofs.NumberLaws.{length-u16}
 use Rattle.records.proofs.LayingLaws.{pen-place}
-use Rattle.bounded.specs.declared.inner.Laid.TheVariants as ends
+use Rattle.bounded.specs.declared.inner.Unfit.TheVariants as unfit
 
 -- ---- a refusal's number
 
@@ -122,29 +127,29 @@ module _ (x : Told Ended) (d o d₀ o₀ : List ℕ) where
 
 -- ---- the answer, by what `lay` told
 
-module _ (b noise words d o d₀ o₀ : List ℕ) (r : Laid) (e : outcome (laid_told r) d o ≡ laid_at (laid_of b noise words) d₀ o₀) where
-  came : (v : Laid) → r ≡ v → outcome (laid_told v) d o ≡ laid_at (laid_of b noise words) d₀ o₀
-  came v is = ap (λ (x : Laid). outcome (laid_told x) d o) (sym is) ∙ e
+module _ (b noise words d o d₀ o₀ : List ℕ) (r : Result Laid Unfit) (e : outcome (laid_told r) d o ≡ laid_at (laid_of b noise words) d₀ o₀) where
+  came : (v : Result Laid Unfit) → r ≡ v → outcome (laid_told v) d o ≡ laid_at (laid_of b noise words) d₀ o₀
+  came v is = ap (λ (x : Result Laid Unfit). outcome (laid_told x) d o) (sym is) ∙ e
 
-  pub room-ended : (end used size : ℕ) → r ≡ ends.Ended end used size → size ≤ length o
+  pub room-ended : (l : Laid) → r ≡ Ok l → l.size ≤ length o
   unfolding laid_told
-  room-ended end used size is = (told-ended (laid_of b noise words) d o d₀ o₀ end used size (came (ends.Ended end used size) is)).1
+  room-ended l is = (told-ended (laid_of b noise words) d o d₀ o₀ (end_number l.end) l.used l.size (came (Ok l) is)).1
 
-  pub room-refused : (n : ℕ) → r ≡ ends.Refused n → n < 65536
+  pub room-refused : (n : Refusal) → r ≡ Err (unfit.Refused n) → number n < 65536
   unfolding laid_told
-  room-refused n is = omega (arith, most-laid b noise words n (told-refused (laid_of b noise words) d o d₀ o₀ n (came (ends.Refused n) is)))
+  room-refused n is = omega (arith, most-laid b noise words (number n) (told-refused (laid_of b noise words) d o d₀ o₀ (number n) (came (Err (unfit.Refused n)) is)))
 
-  pub answer-ended : (end used size : ℕ) → r ≡ ends.Ended end used size → answer_of (laid_of b noise words) ≡ u16 0 ++ take size o
+  pub answer-ended : (l : Laid) → r ≡ Ok l → answer_of (laid_of b noise words) ≡ u16 0 ++ take l.size o
   unfolding laid_told
-  answer-ended end used size is = (told-ended (laid_of b noise words) d o d₀ o₀ end used size (came (ends.Ended end used size) is)).0
+  answer-ended l is = (told-ended (laid_of b noise words) d o d₀ o₀ (end_number l.end) l.used l.size (came (Ok l) is)).0
 
-  pub answer-refused : (n : ℕ) → r ≡ ends.Refused n → answer_of (laid_of b noise words) ≡ u16 n
+  pub answer-refused : (n : Refusal) → r ≡ Err (unfit.Refused n) → answer_of (laid_of b noise words) ≡ u16 (number n)
   unfolding laid_told answer_of
-  answer-refused n is = ap answer_of (told-refused (laid_of b noise words) d o d₀ o₀ n (came (ends.Refused n) is))
+  answer-refused n is = ap answer_of (told-refused (laid_of b noise words) d o d₀ o₀ (number n) (came (Err (unfit.Refused n)) is))
 
-  pub answer-large : r ≡ ends.TooLarge → answer_of (laid_of b noise words) ≡ u16 65535
+  pub answer-large : r ≡ Err unfit.TooLarge → answer_of (laid_of b noise words) ≡ u16 65535
   unfolding laid_told answer_of
-  answer-large is = ap answer_of (told-large (laid_of b noise words) d o d₀ o₀ (came ends.TooLarge is))
+  answer-large is = ap answer_of (told-large (laid_of b noise words) d o d₀ o₀ (came (Err unfit.TooLarge) is))
 
 -- a number that is written has two bytes, and is the answer
 module _ (new out : List ℕ) (place k : ℕ) (e : pen new place ≡ laid (u16 k) (pen out 0)) where

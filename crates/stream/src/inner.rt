@@ -5,7 +5,7 @@ ghost use Rattle.records.specs.Numbers.{u16};
 ghost use Rattle.bounded.specs.Laid.{laid_of, Held, Front};
 ghost use Rattle.stream.specs.Cases.{next_of, parts, comes_to, answer_of};
 
-use bounded::inner::{Laid, memory};
+use bounded::inner::{Unfit, memory};
 use records::inner::{lay_bytes, lay_u16};
 use sentences::Reason;
 use transfer::{front, room};
@@ -78,9 +78,9 @@ fn tell(
     ensures upper_bound { result ≤ 8204 }
 {
     match bounded::inner::lay(sheet, formed, noise, words, domains, res) {
-        Laid::Ended(_, _, size) => tell_result(size, res, out),
-        Laid::Refused(number) => lay_u16(number as usize, out, 0),
-        Laid::TooLarge => lay_u16(TOO_LARGE, out, 0),
+        Ok(laid) => tell_result(laid.size, res, out),
+        Err(Unfit::Refused(refusal)) => lay_u16(u32::from(refusal) as usize, out, 0),
+        Err(Unfit::TooLarge) => lay_u16(TOO_LARGE, out, 0),
     }
 }
 

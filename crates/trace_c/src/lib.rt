@@ -3,7 +3,7 @@
 // Follows docs/RULES.md, "Run". Its contracts say that the slices stay as each step must find them; what is told is compared, not proved.
 #![tactic(auto)]
 
-ghost use Rattle.std.specs.Prelude.{◌≡◌, ◌*◌, ◌≤◌, length};
+ghost use Rattle.std.specs.Prelude.{◌≡◌, ◌*◌, ◌≤◌, IfSome, length};
 ghost use Rattle.adjacency.specs.Tables.{table};
 ghost use Rattle.grid.specs.Grid.{grid};
 ghost use Rattle.course.specs.Run.{given};
@@ -11,18 +11,10 @@ ghost use Rattle.course.specs.Called.{memory};
 ghost use Rattle.run.specs.Stages.{Standing};
 ghost use Rattle.trace_c.specs.Going.{Going};
 
-use choice::Choice;
-use choice::inner::Observed;
-
-// Two codes beside those of the run's stages: a forbid is not of the grid; there was nothing to choose.
-const OUTSIDE: u32 = 4294967294;
-
-const NOTHING: u32 = 4294967293;
-
-// A choice, and the code of where it leaves the run: 0 to go on.
-#[derive(Clone, Copy)]
+// A choice, and whether the run goes on after it.
+#[derive(Clone, Copy, Debug)]
 struct Made {
-    code: u32,
+    goes: bool,
     cell: u32,
     pattern: u32,
     entropy: f32,
@@ -36,7 +28,7 @@ fn narrow(x: usize) -> u32 {
     4294967295
 }
 
-// Lays a forbid: 0 to go on, OUTSIDE where it is not of the grid, otherwise a contradiction's code.
+// Lays a forbid; whether the run goes on, which it does not where the forbid is not of the grid or empties a cell.
 fn lay(
     cell: u32,
     pattern: u32,
@@ -55,25 +47,24 @@ fn lay(
     pending: &mut [u32],
     floats: &mut [f32],
     marks: &mut [u8],
-) -> u32
+) -> bool
     requires { Standing (given (table count offsets.now ids.now) weights.now (grid width height mode) noise.now) (memory domains.old counts.old pending.old floats.old marks.old) }
     ensures { Going (given (table count offsets.now ids.now) weights.now (grid width height mode) noise.now) result (memory domains.new counts.new pending.new floats.new marks.new) }
 {
     if domains.len() <= cell as usize {
-        return OUTSIDE;
+        return false;
     }
     if count <= pattern as usize {
-        return OUTSIDE;
+        return false;
     }
-    run::inner::lay_one(
+    !run::inner::lay_one(
         cell, pattern, keep, count, width, height, mode, weights, offsets, ids, noise, words,
         domains, counts, pending, floats, marks,
     )
 }
 
-// Lays the forbids in order, until one ends it.
+// Lays the forbids in order, until one ends the run; whether it goes on.
 fn lay_all(
-    code: u32,
     forbids: &[u32],
     count: usize,
     width: usize,
@@ -89,17 +80,13 @@ fn lay_all(
     pending: &mut [u32],
     floats: &mut [f32],
     marks: &mut [u8],
-) -> u32
-    requires { Going (given (table count offsets.now ids.now) weights.now (grid width height mode) noise.now) code (memory domains.old counts.old pending.old floats.old marks.old) }
+) -> bool
+    requires { Standing (given (table count offsets.now ids.now) weights.now (grid width height mode) noise.now) (memory domains.old counts.old pending.old floats.old marks.old) }
     ensures { Going (given (table count offsets.now ids.now) weights.now (grid width height mode) noise.now) result (memory domains.new counts.new pending.new floats.new marks.new) }
 {
-    let mut next = code;
     let mut i = 0;
     while i < forbids.len() / 3 {
-        if next != 0 {
-            return next;
-        }
-        next = lay(
+        if !lay(
             forbids[3 * i],
             forbids[3 * i + 1],
             forbids[3 * i + 2],
@@ -117,13 +104,15 @@ fn lay_all(
             pending,
             floats,
             marks,
-        );
+        ) {
+            return false;
+        }
         i += 1;
     }
-    next
+    true
 }
 
-// Begins the run and lays the forbids.
+// Begins the run and lays the forbids; whether the run goes on.
 fn start(
     forbids: &[u32],
     count: usize,
@@ -140,38 +129,46 @@ fn start(
     pending: &mut [u32],
     floats: &mut [f32],
     marks: &mut [u8],
-) -> u32
+) -> bool
     ensures { Going (given (table count offsets.now ids.now) weights.now (grid width height mode) noise.now) result (memory domains.new counts.new pending.new floats.new marks.new) }
 {
-    let code = run::inner::begin(
-        0, 0, count, width, height, mode, weights, offsets, ids, noise, words, domains, counts,
-        pending, floats, marks,
-    );
-    lay_all(
-        code, forbids, count, width, height, mode, weights, offsets, ids, noise, words, domains,
-        counts, pending, floats, marks,
-    )
+    match run::inner::begin(
+        Ok(()),
+        0,
+        count,
+        width,
+        height,
+        mode,
+        weights,
+        offsets,
+        ids,
+        noise,
+        words,
+        domains,
+        counts,
+        pending,
+        floats,
+        marks,
+    ) {
+        Ok(()) => lay_all(
+            forbids, count, width, height, mode, weights, offsets, ids, noise, words, domains,
+            counts, pending, floats, marks,
+        ),
+        Err(_) => false,
+    }
 }
 
 // The pattern that a word chooses at a cell, or `count` where there is none.
 fn pattern_at(count: usize, weights: &[u32], domains: &[u64], cell: usize, word: u32) -> usize {
     if cell < domains.len() {
-        match choice::choice_of(count, weights, domains[cell], word) {
-            Choice::Pattern(pattern) => {
-                return pattern;
-            }
-            Choice::Nothing => {
-                return count;
-            }
-            Choice::Refused(_) => {
-                return count;
-            }
+        if let Ok(Some(pattern)) = choice::choice_of(count, weights, domains[cell], word) {
+            return pattern;
         }
     }
     count
 }
 
-// Makes the choice that a word comes to.
+// Makes the choice that a word comes to; none where nothing is observed.
 fn choose(
     word: u32,
     count: usize,
@@ -188,40 +185,31 @@ fn choose(
     pending: &mut [u32],
     floats: &mut [f32],
     marks: &mut [u8],
-) -> Made
+) -> Option<Made>
     requires { Standing (given (table count offsets.now ids.now) weights.now (grid width height mode) noise.now) (memory domains.old counts.old pending.old floats.old marks.old) }
-    ensures { Going (given (table count offsets.now ids.now) weights.now (grid width height mode) noise.now) result.code (memory domains.new counts.new pending.new floats.new marks.new) }
+    ensures { IfSome result (λ made. Going (given (table count offsets.now ids.now) weights.now (grid width height mode) noise.now) made.goes
+        (memory domains.new counts.new pending.new floats.new marks.new)) }
 {
-    match run::inner::sight(
+    let sight = run::inner::sight(
         count, width, height, mode, weights, offsets, ids, noise, domains, counts, pending, floats,
         marks,
-    ) {
-        Observed::Nothing => Made {
-            code: NOTHING,
-            cell: 0,
-            pattern: 0,
-            entropy: 0.0,
-        },
-        Observed::Cell(at, entropy) => {
-            let cell = narrow(at);
-            let pattern = narrow(pattern_at(count, weights, domains, at, word));
-            let code = lay(
-                cell, pattern, 1, count, width, height, mode, weights, offsets, ids, noise, words,
-                domains, counts, pending, floats, marks,
-            );
-            Made {
-                code: code,
-                cell: cell,
-                pattern: pattern,
-                entropy: entropy,
-            }
-        }
-    }
+    )?;
+    let cell = narrow(sight.cell);
+    let pattern = narrow(pattern_at(count, weights, domains, sight.cell, word));
+    let goes = lay(
+        cell, pattern, 1, count, width, height, mode, weights, offsets, ids, noise, words, domains,
+        counts, pending, floats, marks,
+    );
+    Some(Made {
+        goes,
+        cell,
+        pattern,
+        entropy: sight.entropy,
+    })
 }
 
 // Makes a choice with each word, until one ends the run, and tells its cell, its pattern and its entropy. The answer is how many were made.
 fn choose_all(
-    code: u32,
     count: usize,
     width: usize,
     height: usize,
@@ -239,27 +227,24 @@ fn choose_all(
     floats: &mut [f32],
     marks: &mut [u8],
 ) -> usize
-    requires going { Going (given (table count offsets.now ids.now) weights.now (grid width height mode) noise.now) code (memory domains.old counts.old pending.old floats.old marks.old) }
+    requires standing { Standing (given (table count offsets.now ids.now) weights.now (grid width height mode) noise.now) (memory domains.old counts.old pending.old floats.old marks.old) }
     requires words_len_bound { (length words.now ≤ 65536) × (length places.old ≡ 2 * length words.now) × (length entropies.old ≡ length words.now) }
 {
-    let mut next = code;
     let mut k = 0;
     while k < words.len() {
-        if next != 0 {
-            return k;
-        }
-        let made = choose(
+        let Some(made) = choose(
             words[k], count, width, height, mode, weights, offsets, ids, noise, words, domains,
             counts, pending, floats, marks,
-        );
-        if made.code == NOTHING {
+        ) else {
             return k;
-        }
+        };
         places[2 * k] = made.cell;
         places[2 * k + 1] = made.pattern;
         entropies[k] = made.entropy;
-        next = made.code;
         k += 1;
+        if !made.goes {
+            return k;
+        }
     }
     k
 }
@@ -293,12 +278,14 @@ pub fn murghidossu_trace(
     if entropies.len() != words.len() {
         return 0;
     }
-    let code = start(
+    if !start(
         forbids, count, width, height, mode, weights, offsets, ids, noise, words, domains, counts,
         pending, floats, marks,
-    );
+    ) {
+        return 0;
+    }
     choose_all(
-        code, count, width, height, mode, weights, offsets, ids, noise, words, places, entropies,
+        count, width, height, mode, weights, offsets, ids, noise, words, places, entropies,
         domains, counts, pending, floats, marks,
     )
 }

@@ -5,7 +5,7 @@ ghost use Rattle.bounded.specs.Laid.{Front};
 ghost use Rattle.command.specs.Arguments as meaning;
 ghost use Rattle.command.specs.Arguments.{fault_of, Asked};
 
-use bounded::inner::{Ground, Taken, memory};
+use bounded::inner::{Ground, Unfit, memory};
 use command::arguments::{Fault, Plan};
 use command::files::Names;
 use command::sentences::FileFault;
@@ -28,9 +28,15 @@ enum Problem {
 }
 
 impl Problem {
-    // Why a sheet was refused, and where it is wrong.
-    fn refused(sheet: &[u8], number: u32) -> Problem {
-        Problem::Refused(number, faults::inner::place_in(sheet, number))
+    // Why a sheet is not laid, and where it is wrong.
+    fn unfit(sheet: &[u8], unfit: Unfit) -> Problem {
+        match unfit {
+            Unfit::TooLarge => Problem::Asked(Fault::TooLarge),
+            Unfit::Refused(refusal) => {
+                let number = u32::from(refusal);
+                Problem::Refused(number, faults::inner::place_in(sheet, number))
+            }
+        }
     }
 }
 
@@ -145,13 +151,11 @@ fn laid<R: Env + Files + Print>(
 ) -> Result<(), Problem>
     requires { Front sheet.now formed }
 {
-    match bounded::inner::measure(sheet, formed) {
-        Taken::Refused(number) => Err(Problem::refused(sheet, number)),
-        Taken::TooLarge => Err(Problem::Asked(Fault::TooLarge)),
-        Taken::Sheet(ground) => match order.seed {
-            Some(seed) => laid_from_seed(rt, order, seed, sheet, formed, ground),
-            None => laid_from_files(rt, order, sheet, formed, ground),
-        },
+    let ground = bounded::inner::measure(sheet, formed)
+        .map_err(|unfit| Problem::unfit(sheet, unfit))?;
+    match order.seed {
+        Some(seed) => laid_from_seed(rt, order, seed, sheet, formed, ground),
+        None => laid_from_files(rt, order, sheet, formed, ground),
     }
 }
 

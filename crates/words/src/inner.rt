@@ -8,7 +8,7 @@ pub fn has_pattern(word: u64, p: usize) -> bool
     requires { p < 64 }
     ensures { result ≡ has word p }
 {
-    (word >> (p as u64)) % 2 == 1
+    (word >> p) % 2 == 1
 }
 
 // The word without pattern p.
@@ -16,8 +16,8 @@ pub fn without_pattern(word: u64, p: usize) -> u64
     requires { p < 64 }
     ensures { result ≡ without word p }
 {
-    if (word >> (p as u64)) % 2 == 1 {
-        word - (1u64 << (p as u64))
+    if (word >> p) % 2 == 1 {
+        word - (1 << p)
     } else {
         word
     }
@@ -28,10 +28,10 @@ pub fn with_pattern(word: u64, p: usize) -> u64
     requires { p < 64 }
     ensures { result ≡ joined word p }
 {
-    if (word >> (p as u64)) % 2 == 1 {
+    if (word >> p) % 2 == 1 {
         word
     } else {
-        word + (1u64 << (p as u64))
+        word + (1 << p)
     }
 }
 
@@ -40,7 +40,7 @@ pub fn lone_pattern(p: usize) -> u64
     requires { p < 64 }
     ensures { result ≡ alone p }
 {
-    1u64 << (p as u64)
+    1 << p
 }
 
 // The word of all of the patterns.
@@ -48,7 +48,7 @@ pub fn full_word(count: usize) -> u64
     requires { (1 ≤ count) × (count ≤ 64) }
     ensures { result ≡ full count }
 {
-    0xffff_ffff_ffff_ffff >> (64 - count)
+    u64::MAX >> (64 - count)
 }
 
 // The patterns that are not in the word, of `count`.
@@ -64,24 +64,21 @@ pub fn beyond_count(word: u64, count: usize) -> bool
     requires { count ≤ 64 }
     ensures { result ≡ beyond count word }
 {
-    if count == 64 {
-        return false;
-    }
-    (word >> (count as u64)) != 0
+    count < 64 && word >> count != 0
 }
 
 // How many patterns are in the word.
 pub fn count_ones(word: u64) -> usize
     ensures { result ≡ how_many 64 word }
 {
-    u64::count_ones(word) as usize
+    word.count_ones() as usize
 }
 
 // The least pattern of the word, and 64 where it has none.
 pub fn next_pattern(word: u64) -> usize
     ensures { result ≡ least 64 word }
 {
-    u64::trailing_zeros(word) as usize
+    word.trailing_zeros() as usize
 }
 
 // The word without its least pattern: what it shares with the number before it.
@@ -96,10 +93,7 @@ pub fn without_least(word: u64) -> u64
 pub fn several(word: u64) -> bool
     ensures { result ≡ leb 2 (how_many 64 word) }
 {
-    if word == 0 {
-        return false;
-    }
-    without_least(word) != 0
+    word != 0 && without_least(word) != 0
 }
 
 // The patterns that are in both words.

@@ -68,7 +68,8 @@ returns-then-bad_list c =
     sym (table_refusal-is _ _ (count-good (goal.at.returns-then-bad_list c).Else-bad_count) (lengths_good (goal.at.returns-then-bad_list c).Else-bad_offsets) (weights-good (goal.at.returns-then-bad_list c).Else-over_weight) (sym c.bad_list.ensures ∙ c.if-bad_list.true) refl)
 
 pub disagrees-requires : goal.disagrees-requires
-disagrees-requires c = listed _ (offsets_long _ _ (offsets-good (goal.at.disagrees-requires c).Else-bad_offsets)) (list-good c)
+disagrees-requires c =
+    listed _ (offsets_long _ _ (offsets-good (goal.at.disagrees-requires c).Else-bad_offsets)) (list-good (goal.at.disagrees-requires c).Else-bad_list)
 
 pub returns-then-disagrees : goal.returns-then-disagrees
 unfolding number_of

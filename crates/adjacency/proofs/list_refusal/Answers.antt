@@ -39,14 +39,14 @@ unfolding number_of
 returns-then-bad_count c = sym (list_refusal-is _ _ _ (sym c.bad_count.ensures ∙ c.if-bad_count.true) refl refl refl refl refl)
 
 pub bad_offsets-requires : goal.bad_offsets-requires
-bad_offsets-requires c = (counted _ (count-good c)).1
+bad_offsets-requires c = (counted _ (count-good (goal.at.bad_offsets-requires c).Else-bad_count)).1
 
 pub returns-then-bad_offsets : goal.returns-then-bad_offsets
 unfolding number_of
 returns-then-bad_offsets c = sym (list_refusal-is _ _ _ (count-good (goal.at.returns-then-bad_offsets c).Else-bad_count) (sym c.bad_offsets.ensures ∙ c.if-bad_offsets.true) refl refl refl refl)
 
 pub bad_list-requires : goal.bad_list-requires
-bad_list-requires c = offsets_long _ _ (offsets-good c)
+bad_list-requires c = offsets_long _ _ (offsets-good (goal.at.bad_list-requires c).Else-bad_offsets)
 
 pub returns-then-bad_list : goal.returns-then-bad_list
 unfolding number_of
@@ -54,7 +54,8 @@ returns-then-bad_list c =
     sym (list_refusal-is _ _ _ (count-good (goal.at.returns-then-bad_list c).Else-bad_count) (offsets-good (goal.at.returns-then-bad_list c).Else-bad_offsets) (sym c.bad_list.ensures ∙ c.if-bad_list.true) refl refl refl)
 
 pub disagrees-requires : goal.disagrees-requires
-disagrees-requires c = listed _ (offsets_long _ _ (offsets-good (goal.at.disagrees-requires c).Else-bad_offsets)) (list-good c)
+disagrees-requires c =
+    listed _ (offsets_long _ _ (offsets-good (goal.at.disagrees-requires c).Else-bad_offsets)) (list-good (goal.at.disagrees-requires c).Else-bad_list)
 
 pub returns-then-disagrees : goal.returns-then-disagrees
 unfolding number_of

@@ -7,7 +7,7 @@ ghost use Rattle.sheet.specs.Called.{sizes_told, read_outcome, read_at};
 ghost use Rattle.bounded.specs.Laid.{sheet_refusal, Held, Reads};
 
 use refusals::Refusal;
-use sheet::SizesAnswer;
+use sheet::Measures;
 
 // The refusal of more bytes than a sheet of up to 64 patterns has, by whether they are a sheet.
 fn long_refusal(formed: bool) -> Refusal
@@ -27,29 +27,25 @@ pub(crate) fn read_in(
     offsets: &mut [u32],
     ids: &mut [u8],
     forbids: &mut [u32],
-) -> SizesAnswer
+) -> Result<Measures, Refusal>
     requires { Reads weights.old offsets.old ids.old forbids.old }
     ensures { (b : List ℕ) → Held b sheet.now formed → read_outcome (sizes_told result) (lent weights.new offsets.new ids.new forbids.new)
         ≡ read_at (sheet_refusal b) (sheet_in b) (lent weights.old offsets.old ids.old forbids.old) }
 {
     if 90272 < sheet.len() {
-        return SizesAnswer::Refused(long_refusal(formed));
+        return Err(long_refusal(formed));
     }
-    match sheet::sizes(sheet) {
-        SizesAnswer::Refused(refusal) => SizesAnswer::Refused(refusal),
-        SizesAnswer::Sheet(m) => {
-            if 64 < m.count {
-                return SizesAnswer::Refused(Refusal::BadCount);
-            }
-            let count = m.count;
-            let starts = 4 * count + 1;
-            sheet::read(
-                sheet,
-                &mut weights[..count],
-                &mut offsets[..starts],
-                ids,
-                forbids,
-            )
-        }
+    let m = sheet::sizes(sheet)?;
+    if 64 < m.count {
+        return Err(Refusal::BadCount);
     }
+    let count = m.count;
+    let starts = 4 * count + 1;
+    sheet::read(
+        sheet,
+        &mut weights[..count],
+        &mut offsets[..starts],
+        ids,
+        forbids,
+    )
 }

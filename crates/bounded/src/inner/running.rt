@@ -3,30 +3,12 @@ ghost use Rattle.std.specs.Prelude.{List, ◌≡◌, ℕ, ◌≤◌, length};
 ghost use Rattle.adjacency.specs.Tables.{table};
 ghost use Rattle.grid.specs.Grid.{grid};
 ghost use Rattle.course.specs.Run.{given};
-ghost use Rattle.run.specs.Answers.{answer_told};
-ghost use Rattle.bounded.specs.Laid.{laid_told, run_told, outcome, ran_of, laid_of, laid_at, Runnable, Held, Front, Reads};
+ghost use Rattle.bounded.specs.Laid.{laid_told, outcome, ran_of, laid_of, laid_at, Runnable, Held, Front, Reads};
 
 use crate::inner::reading::read_in;
-use crate::inner::Laid;
 use crate::inner::memory::{Counts, Floats, Marks, Pending};
-use run::Answer;
-use sheet::SizesAnswer;
+use crate::inner::{Laid, Unfit};
 use transfer::room;
-
-// What an answer tells of a run on so many cells.
-fn laid_as(answer: Answer, cells: usize) -> Laid
-    requires { cells ≤ 1024 }
-    ensures { laid_told result ≡ run_told (answer_told answer) cells }
-{
-    let length = 10 + 8 * cells;
-    match answer {
-        Answer::Decided(used) => Laid::Ended(0, used, length),
-        Answer::Undecided(used) => Laid::Ended(1, used, length),
-        Answer::Paused(used) => Laid::Ended(2, used, length),
-        Answer::Contradiction(used) => Laid::Ended(3, used, length),
-        Answer::Refused(refusal) => Laid::Refused(refusals::inner::number(refusal)),
-    }
-}
 
 // The run of what nothing refuses but perhaps the noise, in work memory that suffices.
 fn run_in(
@@ -42,7 +24,7 @@ fn run_in(
     words: &[u32],
     domains: &mut [u64],
     out: &mut [u8],
-) -> Laid
+) -> Result<Laid, Unfit>
     requires { Runnable (table count offsets.now ids.now) weights.now (grid width height mode) forbids.now × (1024 ≤ length domains.old) × (8202 ≤ length out.old) }
     ensures { outcome (laid_told result) domains.new out.new
         ≡ laid_at (ran_of (given (table count offsets.now ids.now) weights.now (grid width height mode) noise.now) forbids.now words.now) domains.old out.old }
@@ -53,7 +35,7 @@ fn run_in(
     let mut marks: Marks = room(0);
     let cells = height * width;
     let places = cells * count;
-    let answer = sheet::run_result(
+    let stop = sheet::run_result(
         forbids,
         count,
         width,
@@ -70,8 +52,12 @@ fn run_in(
         &mut floats[..2 * cells],
         &mut marks[..2 * cells + (cells + 31) / 32],
         out,
-    );
-    laid_as(answer, cells)
+    )?;
+    Ok(Laid {
+        end: stop.end,
+        used: stop.used,
+        size: 10 + 8 * cells,
+    })
 }
 
 // The sheet is read into slices that are long enough, and run where it is not too large.
@@ -86,35 +72,31 @@ pub(crate) fn lay_in(
     forbids: &mut [u32],
     domains: &mut [u64],
     out: &mut [u8],
-) -> Laid
+) -> Result<Laid, Unfit>
     requires { Reads weights.old offsets.old ids.old forbids.old × (1024 ≤ length domains.old) × (8202 ≤ length out.old) × Front sheet.now formed }
     ensures { (b : List ℕ) → Held b sheet.now formed → outcome (laid_told result) domains.new out.new
         ≡ laid_at (laid_of b noise.now words.now) domains.old out.old }
 {
-    match read_in(sheet, formed, weights, offsets, ids, forbids) {
-        SizesAnswer::Refused(refusal) => Laid::Refused(refusals::inner::number(refusal)),
-        SizesAnswer::Sheet(m) => {
-            let count = m.count;
-            if 4096 < m.height * m.width * count {
-                return Laid::TooLarge;
-            }
-            let starts = 4 * count + 1;
-            let last = m.ids;
-            let numbers = 3 * m.forbids;
-            run_in(
-                &forbids[..numbers],
-                count,
-                m.width,
-                m.height,
-                m.mode,
-                &weights[..count],
-                &offsets[..starts],
-                &ids[..last],
-                noise,
-                words,
-                domains,
-                out,
-            )
-        }
+    let m = read_in(sheet, formed, weights, offsets, ids, forbids)?;
+    let count = m.count;
+    if 4096 < m.height * m.width * count {
+        return Err(Unfit::TooLarge);
     }
+    let starts = 4 * count + 1;
+    let last = m.ids;
+    let numbers = 3 * m.forbids;
+    run_in(
+        &forbids[..numbers],
+        count,
+        m.width,
+        m.height,
+        m.mode,
+        &weights[..count],
+        &offsets[..starts],
+        &ids[..last],
+        noise,
+        words,
+        domains,
+        out,
+    )
 }

@@ -9,6 +9,7 @@ use crate::inner::signs::{border, glyph, joins_x, joins_y};
 use text::Page;
 
 // An ocean as it is shown: the grid's sides and mode, whether the patterns are named as the practice ocean's, how the run ended and how many words it used, and the domains.
+// `mode` and `end` stay numbers: `put_chart` and the picture's calls tell every number (docs/CONTRACTS.md, `chart_text`).
 #[derive(Clone, Copy)]
 pub struct Ocean<'a> {
     pub width: usize,

@@ -9,28 +9,17 @@ ghost use Rattle.logarithms.specs.Lookups.{Lookups};
 ghost use Rattle.notes.specs.Beside.{beside_in};
 ghost use Rattle.propagation.specs.Lent.{state_of, Lent, Ground};
 ghost use Rattle.notes.specs.Sizes.{Alongside, Roomy};
-ghost use Rattle.collapse.specs.declared.inner.turns.Step.{Step};
+ghost use Rattle.std.specs.declared.ops.ControlFlow.{ControlFlow};
+ghost use Rattle.collapse.specs.declared.Ending.{Ending};
+ghost use Rattle.collapse.specs.Endings.{end_number};
 ghost use Rattle.choice.specs.Choice.{taken};
 ghost use Rattle.course.specs.Run as run;
 ghost use Rattle.course.specs.Run.{given};
 ghost use Rattle.collapse.specs.Steps.{idle, turn_of, stop_of, Found, Sightly, Laid, ended_as};
 
-use choice::inner::Observed;
+use crate::{Ending, Stop};
 use propagation::inner::Pile;
-
-// What a turn comes to: the run is over with this end, or it goes on with one more word used.
-#[derive(Clone, Copy)]
-pub enum Step {
-    Over(u32),
-    On(Pile),
-}
-
-// Where the turns stand: the run's end, or 4 while it goes on, and how many words are used.
-#[derive(Clone, Copy)]
-pub struct Stop {
-    pub end: u32,
-    pub used: usize,
-}
+use std::ops::ControlFlow;
 
 // Whether every cell has one pattern.
 fn decided(domains: &[u64]) -> bool
@@ -46,14 +35,14 @@ fn decided(domains: &[u64]) -> bool
     true
 }
 
-// The end of a run with nothing to observe: 0 where every cell has one pattern, otherwise 1.
-fn still_end(domains: &[u64]) -> u32
-    ensures { result ≡ cond (run.decided domains.now) 0 1 }
+// The end of a run with nothing to observe, by whether every cell has one pattern.
+fn still_end(domains: &[u64]) -> Ending
+    ensures { end_number result ≡ cond (run.decided domains.now) 0 1 }
 {
     if decided(domains) {
-        return 0;
+        return Ending::Decided;
     }
-    1
+    Ending::Undecided
 }
 
 // The pattern that a word takes at a cell stays, the others go, and that is propagated.
@@ -96,7 +85,7 @@ fn choose_at(
     )
 }
 
-// One turn, from slices with nothing pending and no empty cell: nothing to observe, no word left, or a choice.
+// One turn, from slices with nothing pending and no empty cell: nothing to observe or no word left, which ends the run, or a choice.
 fn turn(
     count: usize,
     offsets: &[u32],
@@ -116,7 +105,7 @@ fn turn(
     pending: &mut [u32],
     floats: &mut [f32],
     marks: &mut [u8],
-) -> Step
+) -> ControlFlow<Ending, Pile>
     requires lent { Lent count (length domains.old) domains.old counts.old pending.old idle }
     requires ground { Ground (table count offsets.now ids.now) (grid width height mode) (length domains.old) }
     requires weighed { Weighed count weights.now × Roomy (length domains.old) noise.now floats.old marks.old × (weighted ≡ mask weights.now) × Lookups weights.now logs.now sums.now }
@@ -127,10 +116,10 @@ fn turn(
         × Found noise.now weighted domains.new floats.new marks.new }
 {
     match choice::inner::observe(domains.len(), noise, domains, floats, marks, weighted) {
-        Observed::Nothing => Step::Over(still_end(domains)),
-        Observed::Cell(cell, _) => {
+        None => ControlFlow::Break(still_end(domains)),
+        Some(sight) => {
             if used < words.len() {
-                return Step::On(choose_at(
+                return ControlFlow::Continue(choose_at(
                     count,
                     offsets,
                     ids,
@@ -142,7 +131,7 @@ fn turn(
                     height,
                     mode,
                     noise,
-                    cell,
+                    sight.cell,
                     words[used],
                     domains,
                     counts,
@@ -151,12 +140,12 @@ fn turn(
                     marks,
                 ));
             }
-            Step::Over(2)
+            ControlFlow::Break(Ending::Paused)
         }
     }
 }
 
-// One turn, and where it leaves the turns: after a choice that empties a cell the run ends as a contradiction.
+// One turn, and where it leaves the turns: at the run's end, which is a contradiction after a choice that empties a cell, or with one more word used.
 fn advance(
     count: usize,
     offsets: &[u32],
@@ -176,12 +165,12 @@ fn advance(
     pending: &mut [u32],
     floats: &mut [f32],
     marks: &mut [u8],
-) -> Stop
+) -> ControlFlow<Stop, usize>
     requires lent { Lent count (length domains.old) domains.old counts.old pending.old idle }
     requires ground { Ground (table count offsets.now ids.now) (grid width height mode) (length domains.old) }
     requires weighed { Weighed count weights.now × Roomy (length domains.old) noise.now floats.old marks.old × (weighted ≡ mask weights.now) × Lookups weights.now logs.now sums.now }
     requires sightly { Sightly noise.now weighted domains.old floats.old marks.old }
-    ensures { (step : Step) × (result ≡ stop_of step used)
+    ensures { (step : ControlFlow Ending Pile) × (result ≡ stop_of step used)
         × (turn_of step used (λ pile. state_of count domains.new counts.new pending.new pile (beside_in (length domains.new) floats.new marks.new))
         ≡ run.turn (given (table count offsets.now ids.now) weights.now (grid width height mode) noise.now) words.now used
         (state_of count domains.old counts.old pending.old idle (beside_in (length domains.old) floats.old marks.old)))
@@ -191,21 +180,15 @@ fn advance(
         count, offsets, ids, weights, weighted, logs, sums, width, height, mode, noise, words,
         used, domains, counts, pending, floats, marks,
     ) {
-        Step::Over(end) => Stop {
-            end: end,
-            used: used,
-        },
-        Step::On(pile) => {
+        ControlFlow::Break(end) => ControlFlow::Break(Stop { end, used }),
+        ControlFlow::Continue(pile) => {
             if pile.empty {
-                return Stop {
-                    end: 3,
+                return ControlFlow::Break(Stop {
+                    end: Ending::Contradiction,
                     used: used + 1,
-                };
+                });
             }
-            Stop {
-                end: 4,
-                used: used + 1,
-            }
+            ControlFlow::Continue(used + 1)
         }
     }
 }
@@ -241,9 +224,9 @@ fn take_turns(
     let logs = logarithms::inner::logs();
     let sums = adjacency::inner::four_sums(weights);
     let end = adjacency::inner::sixteens(count);
-    let mut stop = Stop { end: 4, used: 0 };
-    while stop.end == 4 {
-        stop = advance(
+    let mut used = 0;
+    loop {
+        match advance(
             count,
             offsets,
             ids,
@@ -256,15 +239,17 @@ fn take_turns(
             mode,
             noise,
             words,
-            stop.used,
+            used,
             domains,
             counts,
             pending,
             floats,
             marks,
-        );
+        ) {
+            ControlFlow::Break(stop) => return stop,
+            ControlFlow::Continue(more) => used = more,
+        }
     }
-    stop
 }
 
 // Turn by turn to the run's end, from slices as some forbids leave them, with nothing pending and no empty cell.
@@ -299,11 +284,11 @@ pub fn collapse(
 {
     choice::inner::forget(domains.len(), marks);
     match choice::inner::observe(domains.len(), noise, domains, floats, marks, weighted) {
-        Observed::Nothing => Stop {
+        None => Stop {
             end: still_end(domains),
             used: 0,
         },
-        Observed::Cell(_, _) => take_turns(
+        Some(_) => take_turns(
             count, offsets, ids, weights, weighted, width, height, mode, noise, words, domains,
             counts, pending, floats, marks,
         ),

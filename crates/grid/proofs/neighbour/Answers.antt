@@ -10,9 +10,8 @@ use Rattle.directions.specs.Directions.{bad_direction}
 use Rattle.refusals.specs.declared.Refusal.{Refusal}
 use Rattle.refusals.specs.declared.Refusal.TheVariants.{BadSize, BadWrap, BadCell, BadDirection}
 use Rattle.refusals.specs.Refusals.{number, ◌gives◌, first_of, answer}
-use Rattle.grid.specs.declared.Near.{Near}
-use Rattle.grid.specs.declared.NearAnswer.TheVariants.{Found, Refused}
-use Rattle.grid.specs.Answers.{cell_of, near_of, neighbour_tests, neighbour_asked}
+use Rattle.std.specs.Prelude.{Option, Ok, Err}
+use Rattle.grid.specs.Answers.{near_of, neighbour_tests, neighbour_asked}
 use Rattle.grid.specs.Grid.{Grid, grid, neighbour, bad_size, bad_wrap, bad_cell, Sized}
 use Rattle.refusals.proofs.RefusalLaws.{first-here, first_next, first-empty, checked-accepted, checked_refused}
 use Rattle.grid.proofs.GridLaws.{sized_of, cell-past, cell-inside}
@@ -20,11 +19,11 @@ use Rattle.grid.proofs.neighbour.Goals as goal
 use Rattle.grid.proofs.neighbour.Goals.{Else-bad_size, Else-bad_wrap, Else-direction-gt3}
 
 module _ (g : Grid) (c d : ℕ) where
-  refuses : (r : Refusal) → first_of (neighbour_tests g c d) ≡ number r → near_of (Refused r) ≡ neighbour_asked g c d
+  refuses : (r : Refusal) → first_of (neighbour_tests g c d) ≡ number r → near_of (Err r) ≡ neighbour_asked g c d
   unfolding near_of neighbour_asked
   refuses r e = sym (checked_refused (neighbour_tests g c d) (neighbour g c d) r e)
 
-  finds : (near : Near) → first_of (neighbour_tests g c d) ≡ 0 → cell_of near ≡ neighbour g c d → near_of (Found near) ≡ neighbour_asked g c d
+  finds : (near : Option ℕ) → first_of (neighbour_tests g c d) ≡ 0 → near ≡ neighbour g c d → near_of (Ok near) ≡ neighbour_asked g c d
   unfolding near_of neighbour_asked
   finds near e k = ap answer k ∙ sym (checked-accepted (neighbour_tests g c d) (neighbour g c d) e)
 
@@ -65,15 +64,15 @@ module _ (c : Else-direction-gt3) where
       ∙ first_next _ _ (wrap-good (goal.at.Else-direction-gt3 c).Else-bad_wrap)
       ∙ first_next _ _ (le-ltb _ _ c.if-direction-gt3.false)
 
-pub overflow_mul-height : goal.overflow_mul-height
-overflow_mul-height c = omega (arith, sized c)
+pub cells-requires : goal.cells-requires
+cells-requires c = size-good (goal.at.cells-requires c).Else-bad_size
 
-pub returns-then-height-width : goal.returns-then-height-width
-returns-then-height-width c = refuses _ _ _ BadCell (to_cell (goal.at.returns-then-height-width c).Else-direction-gt3 ∙ first-here _ _ (cell-past _ _ (omega arith)))
+pub returns-then-cells-cell : goal.returns-then-cells-cell
+returns-then-cells-cell c = refuses _ _ _ BadCell (to_cell (goal.at.returns-then-cells-cell c).Else-direction-gt3 ∙ first-here _ _ (cell-past _ _ (omega arith)))
 
 pub neighbour_of-requires : goal.neighbour_of-requires
-neighbour_of-requires c = (sized (goal.at.neighbour_of-requires c).Else-direction-gt3, c.if-height-width.false, omega arith)
+neighbour_of-requires c = (sized (goal.at.neighbour_of-requires c).Else-direction-gt3, omega arith, omega arith)
 
 pub returns : goal.returns
 returns c =
-    finds _ _ _ _ (to_cell (goal.at.returns c).Else-direction-gt3 ∙ first_next _ _ (cell-inside _ _ c.if-height-width.false) ∙ first-empty) c.neighbour_of.ensures
+    finds _ _ _ _ (to_cell (goal.at.returns c).Else-direction-gt3 ∙ first_next _ _ (cell-inside _ _ (omega arith)) ∙ first-empty) c.neighbour_of.ensures

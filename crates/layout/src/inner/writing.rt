@@ -3,13 +3,13 @@ ghost use Rattle.std.specs.Prelude.{[], ◌∷◌, ◌≡◌, ◌+◌, ◌*◌, 
 ghost use Rattle.records.specs.Numbers.{u16s};
 ghost use Rattle.records.specs.Records.{record_of};
 ghost use Rattle.records.specs.Laying.{pen, laid};
-ghost use Rattle.adjacency.specs.Tables.{table};
 ghost use Rattle.adjacency.specs.Accepted.{Accepted};
-ghost use Rattle.grid.specs.Grid.{grid};
 ghost use Rattle.layout.specs.Sheet.{list_bytes, bytes_of};
 ghost use Rattle.layout.specs.Tables.{kind_of, lists_of, sheet_for, stored};
 ghost use Rattle.layout.specs.Lending.{Small, Numbered, Fitting};
 
+use adjacency::inner::Table;
+use grid::Grid;
 use records::inner::{lay_byte, lay_bytes, lay_head, lay_numbers, lay_u16};
 
 // The first record: the count and the weights.
@@ -34,36 +34,40 @@ fn lay_list(list: &[u8], out: &mut [u8], at: usize) -> usize
 }
 
 // All lists in order.
-fn lay_each_list(count: usize, offsets: &[u32], ids: &[u8], out: &mut [u8], at: usize) -> usize
-    requires { Accepted (table count offsets.now ids.now) × (at + length (list_bytes (lists_of (table count offsets.now ids.now))) ≤ length out.old) }
-    ensures { pen out.new result ≡ laid (list_bytes (lists_of (table count offsets.now ids.now))) (pen out.old at) }
+fn lay_each_list(table: &Table, out: &mut [u8], at: usize) -> usize
+    requires { Accepted table.now × (at + length (list_bytes (lists_of table.now)) ≤ length out.old) }
+    ensures { pen out.new result ≡ laid (list_bytes (lists_of table.now)) (pen out.old at) }
 {
     let mut place = at;
-    for k in 0..4 * count {
-        let list = adjacency::inner::list_of(count, offsets, ids, k / 4, k % 4);
+    for k in 0..4 * table.count {
+        let list = table.list_of(k / 4, k % 4);
         place = lay_list(list, out, place);
     }
     place
 }
 
 // The second record: the lists.
-fn lay_lists(count: usize, offsets: &[u32], ids: &[u8], out: &mut [u8], at: usize) -> usize
-    requires { Accepted (table count offsets.now ids.now) × (at + 6 + 4 * count + length ids.now ≤ length out.old) }
-    ensures { pen out.new result ≡ laid (record_of 2 (list_bytes (lists_of (table count offsets.now ids.now)))) (pen out.old at) }
+fn lay_lists(table: &Table, out: &mut [u8], at: usize) -> usize
+    requires { Accepted table.now × (at + 6 + 4 * table.now.count + length table.now.ids ≤ length out.old) }
+    ensures { pen out.new result ≡ laid (record_of 2 (list_bytes (lists_of table.now))) (pen out.old at) }
 {
-    let place = lay_head(2, 4 * count + ids.len(), out, at);
-    lay_each_list(count, offsets, ids, out, place)
+    let place = lay_head(2, 4 * table.count + table.ids.len(), out, at);
+    lay_each_list(table, out, place)
 }
 
 // ---- grid and forbids
 
 // The third record: width, height and mode.
-fn lay_grid(width: usize, height: usize, mode: usize, out: &mut [u8], at: usize) -> usize
-    requires { (width < 65536) × (height < 65536) × (mode < 65536) × (at + 12 ≤ length out.old) }
-    ensures { pen out.new result ≡ laid (record_of 3 (u16s (width ∷ height ∷ mode ∷ []))) (pen out.old at) }
+fn lay_grid(grid: Grid, out: &mut [u8], at: usize) -> usize
+    requires { (grid.width < 65536) × (grid.height < 65536) × (grid.mode < 65536) × (at + 12 ≤ length out.old) }
+    ensures { pen out.new result ≡ laid (record_of 3 (u16s (grid.width ∷ grid.height ∷ grid.mode ∷ []))) (pen out.old at) }
 {
     let place = lay_head(3, 6, out, at);
-    lay_numbers(&[width as u32, height as u32, mode as u32], out, place)
+    lay_numbers(
+        &[grid.width as u32, grid.height as u32, grid.mode as u32],
+        out,
+        place,
+    )
 }
 
 // Whether a forbid keeps, as it is stored.
@@ -99,23 +103,19 @@ fn lay_forbids(forbids: &[u32], out: &mut [u8], at: usize) -> usize
 
 // The four records from the front.
 pub fn lay_sheet(
-    count: usize,
+    table: &Table,
     weights: &[u32],
-    offsets: &[u32],
-    ids: &[u8],
-    width: usize,
-    height: usize,
-    mode: usize,
+    grid: Grid,
     forbids: &[u32],
     out: &mut [u8],
 ) -> usize
-    requires { Fitting (table count offsets.now ids.now) weights.now (grid width height mode) forbids.now
-        × (32 + 6 * count + length ids.now + 2 * length forbids.now ≤ length out.old) }
+    requires { Fitting table.now weights.now grid forbids.now
+        × (32 + 6 * table.now.count + length table.now.ids + 2 * length forbids.now ≤ length out.old) }
     ensures { pen out.new result
-        ≡ laid (bytes_of (sheet_for (table count offsets.now ids.now) weights.now (grid width height mode) forbids.now)) (pen out.old 0) }
+        ≡ laid (bytes_of (sheet_for table.now weights.now grid forbids.now)) (pen out.old 0) }
 {
     let place = lay_weights(weights, out, 0);
-    let place = lay_lists(count, offsets, ids, out, place);
-    let place = lay_grid(width, height, mode, out, place);
+    let place = lay_lists(table, out, place);
+    let place = lay_grid(grid, out, place);
     lay_forbids(forbids, out, place)
 }

@@ -17,7 +17,8 @@ ghost use Rattle.propagation.specs.Lent.{state_of, top_of, below_top, Lent, Grou
 ghost use Rattle.propagation.specs.Supports.{visits, until_loss};
 ghost use Rattle.consistency.specs.Worklist as worklist;
 
-use grid::Near;
+use adjacency::inner::Table;
+use grid::Grid;
 
 // The pile of removals that are pending: its height, and whether a cell was emptied.
 #[derive(Clone, Copy)]
@@ -233,9 +234,18 @@ fn spread_in(
         ≡ worklist.spread_in (table count offsets.now ids.now) (grid width height mode) (watching weights.now noise.now cells) (removal cell p) d
         (state_of count domains.old counts.old pending.old pile (beside floats.old marks.old)) }
 {
-    let near = grid::inner::neighbour_of(width, height, mode, cell, d);
-    match near {
-        Near::Cell(n) => decrements(
+    let table = Table {
+        count,
+        offsets,
+        ids,
+    };
+    let grid = Grid {
+        width,
+        height,
+        mode,
+    };
+    match grid.neighbour_of(cell, d) {
+        Some(n) => decrements(
             count,
             weights,
             weighted,
@@ -245,7 +255,7 @@ fn spread_in(
             cells,
             n,
             d,
-            adjacency::inner::list_of(count, offsets, ids, p, d),
+            table.list_of(p, d),
             domains,
             counts,
             pending,
@@ -253,7 +263,7 @@ fn spread_in(
             marks,
             pile,
         ),
-        Near::Edge => pile,
+        None => pile,
     }
 }
 

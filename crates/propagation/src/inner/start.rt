@@ -8,6 +8,7 @@ ghost use Rattle.adjacency.specs.Tables.{table, list_of};
 ghost use Rattle.adjacency.specs.Accepted.{Accepted};
 ghost use Rattle.consistency.specs.Start.{start_counts};
 
+use adjacency::inner::Table;
 use directions::inner::opposite_of;
 
 // ---- support counts
@@ -25,10 +26,15 @@ fn first_counts(count: usize, offsets: &[u32], ids: &[u8], counts: &mut [u8])
     ensures { (k : ℕ) → k < 4 * count → get_or counts.new k 0
         ≡ length (list_of (table count offsets.now ids.now) (k / 4) (opposite (k % 4))) }
 {
+    let table = Table {
+        count,
+        offsets,
+        ids,
+    };
     let mut i = 0;
     while i < 4 * count {
         let back = opposite_of(i % 4);
-        let list = adjacency::inner::list_of(count, offsets, ids, i / 4, back);
+        let list = table.list_of(i / 4, back);
         counts[i] = narrow(list.len());
         i += 1;
     }

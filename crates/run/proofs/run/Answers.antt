@@ -1,15 +1,18 @@
--- `run::run` meets its contract: it begins, lays the forbids one by one until a code ends it, and concludes.
+-- `run::run` meets its contract: it begins, lays the forbids one by one until one empties a cell, and concludes.
 -- Follows docs/RULES.md, "Run" and "Refusals". Assumes nothing.
 use Rattle.std.proofs.Common.{◌≡◌, ap, ◌∙◌, ℕ, length}
+use Rattle.std.proofs.lemmas.Result.{err_from_is_err_and}
+use Rattle.refusals.specs.Refusals.{number_of}
 use Rattle.adjacency.specs.Tables.{table}
 use Rattle.grid.specs.Grid.{grid}
 use Rattle.course.specs.Run.{Given, given}
-use Rattle.course.specs.Called.{Memory, memory}
-use Rattle.run.specs.Stages.{beginning, stage_of, lay_all}
+use Rattle.course.specs.Called.{Memory, memory, room_of}
+use Rattle.run.specs.Stages.{contradicted, standing, state_in, beginning}
 use Rattle.run.proofs.StandingLaws.{room_same}
+use Rattle.run.proofs.StageLaws.{refused_called}
 use Rattle.run.proofs.WalkLaws.{begun_stage, at_first, at_next, at-record, at_last, at-stop, run_is}
 use Rattle.run.proofs.run.Goals as goal
-use Rattle.run.proofs.run.Goals.{Start, else-loop-i-test, then-loop-i-test+then-code-ne0}
+use Rattle.run.proofs.run.Goals.{Start, After-begin, After-lay_one}
 
 -- what the call is given, and the lent slices at entry
 abbrev input : Start → Given
@@ -18,41 +21,69 @@ input s = given (table s.args.count s.args.offsets.now s.args.ids.now) s.args.we
 abbrev entry : Start → Memory
 entry s = memory s.args.domains.now s.args.counts.now s.args.pending.now s.args.floats.now s.args.marks.now
 
+-- what the beginning comes to, by the refusals of the forbids
+judged : (c : After-begin) → let s = (goal.at.After-begin c).Start in
+    beginning (number_of c.check_all-bad.result) (length c.args.forbids.now) (input s) (entry s) ≡ begun_stage (input s) c.args.forbids.now (entry s)
+judged c =
+    let s = (goal.at.After-begin c).Start in
+    ap (λ (n : ℕ). beginning n (length c.args.forbids.now) (input s) (entry s)) (c.check_all-bad.ensures c.args.offsets.now c.args.ids.now)
+
+pub returns-in_err-begin : goal.returns-in_err-begin
+returns-in_err-begin c =
+    let s = (goal.at.returns-in_err-begin c).Start in
+    let l = c.begin.new in
+    let (_, e, same) = err_from_is_err_and c.from_residual.result c.from_residual.ensures.1 in
+    rw (e, same)
+    (refused_called (length c.args.forbids.now) (input s) c.args.forbids.now c.args.words.now (entry s) (memory l.domains l.counts l.pending l.floats l.marks) _
+    (c.in_err-begin.ensures ∙ judged (goal.at.returns-in_err-begin c).After-begin))
+
 pub loop-i-init : goal.loop-i-init
 loop-i-init c =
     let s = (goal.at.loop-i-init c).Start in
-    let a = c.args in
-    let b = c.begin-code in
-    at_first (input s) a.forbids.now (entry s) b.result _
+    let b = c.begin in
+    at_first (input s) c.args.forbids.now (entry s) _
     (room_same (entry s) (b.auto.domains, (b.auto.counts, (b.auto.pending, (b.auto.floats, (b.auto.marks, tt {0}))))))
-    (b.ensures ∙ ap (λ (n : ℕ). beginning n (length a.forbids.now) (input s) (entry s)) (c.check_all-bad.ensures a.offsets.now a.ids.now a.mode))
+    (c.in_ok-begin.ensures ∙ judged (goal.at.loop-i-init c).After-begin)
 
-pub lay_one-code-requires : goal.lay_one-code-requires
-lay_one-code-requires c =
-    let s = (goal.at.lay_one-code-requires c).Start in
+pub lay_one-requires : goal.lay_one-requires
+lay_one-requires c =
+    let s = (goal.at.lay_one-requires c).Start in
     let going = c.loop-i.invariant in
-    let placed = at-record (input s) c.args.forbids.now (entry s) _ _ _ going c.loop-i-test.true c.if-code-ne0.false in
-    (going.concluded.standing c.if-code-ne0.false, placed.0, placed.1)
+    let placed = at-record (input s) c.args.forbids.now (entry s) _ _ going c.loop-i-test.true in
+    (going.standing, placed.0, placed.1)
+
+-- the lent slices after a forbid are as long as at entry
+laid-room : (c : After-lay_one) → let l = c.lay_one.new in
+    room_of (memory l.domains l.counts l.pending l.floats l.marks) ≡ room_of (entry (goal.at.After-lay_one c).Start)
+laid-room c =
+    let l = c.loop-i in
+    let b = c.lay_one in
+    room_same (memory l.domains l.counts l.pending l.floats l.marks) (b.auto.domains, (b.auto.counts, (b.auto.pending, (b.auto.floats, (b.auto.marks, tt {0}))))) ∙ l.invariant.room
+
+pub returns-then-lay_one : goal.returns-then-lay_one
+returns-then-lay_one c =
+    let s = (goal.at.returns-then-lay_one c).Start in
+    let fs = c.args.forbids.now in
+    let l = c.lay_one.new in
+    run_is (input s) fs (entry s) c.args.words.now contradicted (memory l.domains l.counts l.pending l.floats l.marks) _
+    (laid-room (goal.at.returns-then-lay_one c).After-lay_one)
+    (at-stop (input s) fs (entry s) _ _ c.loop-i.invariant c.loop-i-test.true _ (memory l.domains l.counts l.pending l.floats l.marks) c.lay_one.ensures c.if-lay_one.true)
+    (c.contradict.ensures (input s) c.args.words.now)
 
 pub loop-i-preserved : goal.loop-i-preserved
 loop-i-preserved c =
     let s = (goal.at.loop-i-preserved c).Start in
-    let l = c.loop-i in
-    let b = c.lay_one-code in
-    at_next (input s) c.args.forbids.now (entry s) _ _ _ _ _ l.invariant c.loop-i-test.true c.if-code-ne0.false
-    (room_same (memory l.domains l.counts l.pending l.floats l.marks) (b.auto.domains, (b.auto.counts, (b.auto.pending, (b.auto.floats, (b.auto.marks, tt {0}))))) ∙ l.invariant.room)
-    b.ensures
+    let l = c.lay_one.new in
+    at_next (input s) c.args.forbids.now (entry s) _ _ c.loop-i.invariant c.loop-i-test.true _ (memory l.domains l.counts l.pending l.floats l.marks) c.lay_one.ensures c.if-lay_one.false
+    (laid-room (goal.at.loop-i-preserved c).After-lay_one)
+
+pub conclude-requires : goal.conclude-requires
+conclude-requires c = c.loop-i.invariant.standing
 
 pub returns : goal.returns
 returns c =
     let s = (goal.at.returns c).Start in
     let l = c.loop-i in
     let m = memory l.domains l.counts l.pending l.floats l.marks in
-    let fs = c.args.forbids.now in
-    let led : stage_of c.args.count l.code m ≡ lay_all (input s) fs (begun_stage (input s) fs (entry s)) =
-    elim c.loop-i-test.branch [
-      | else-loop-i-test w ↦ at_last (input s) fs (entry s) _ _ _ l.invariant w.loop-i-test.false
-      | then-loop-i-test+then-code-ne0 w ↦ at-stop (input s) fs (entry s) _ _ _ l.invariant w.if-code-ne0.true
-    ]
-    in
-    run_is (input s) fs (entry s) c.args.words.now _ _ _ _ l.invariant led c.conclude.ensures
+    run_is (input s) c.args.forbids.now (entry s) c.args.words.now (standing (state_in c.args.count m)) m _ l.invariant.room
+    (at_last (input s) c.args.forbids.now (entry s) _ _ l.invariant c.loop-i-test.false) c.conclude.ensures

@@ -1,5 +1,7 @@
--- The forbids before the index are laid, and those from there lead where all lead.
-use Rattle.std.proofs.Common.{length, ◌-◌}
+-- `run::run` meets its contract. The invariant: the forbids before place i are laid, and the rest laid from here is all of them laid from the start.
+-- Assumes nothing.
+use Prim.Native.Nat.{◌-◌}
+use lib.ListN.{length}
 use Rattle.adjacency.specs.Tables.{table}
 use Rattle.grid.specs.Grid.{grid}
 use Rattle.course.specs.Run.{given}
@@ -10,7 +12,7 @@ use Rattle.run.proofs.run.Given as goal
 abbrev pub invariant-loop-i : goal.invariant-loop-i
 invariant-loop-i l =
     Going (given (table l.count l.offsets l.ids) l.weights (grid l.width l.height l.mode) l.noise) l.forbids
-    (memory l.fn.domains l.fn.counts l.fn.pending l.fn.floats l.fn.marks) l.i l.code (memory l.domains l.counts l.pending l.floats l.marks)
+    (memory l.fn.domains l.fn.counts l.fn.pending l.fn.floats l.fn.marks) l.i (memory l.domains l.counts l.pending l.floats l.marks)
 
 abbrev pub decreases-loop-i : goal.decreases-loop-i
 decreases-loop-i l = length l.forbids - l.i

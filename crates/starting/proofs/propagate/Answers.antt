@@ -1,8 +1,8 @@
 -- `starting::propagate` meets its contract: refused, nothing was written; accepted, what `settle` writes is the outcome.
 -- Assumes nothing.
-use mathlib.Core.Path.{◌≡◌, sym, ap, ◌∙◌}
+use mathlib.Core.Path.{◌≡◌, sym, ◌∙◌}
 use lib.ListN.{length}
-use Rattle.refusals.specs.Refusals.{number_of}
+use Rattle.std.proofs.lemmas.Result.{err_from_is_err_and}
 use Rattle.adjacency.specs.Tables.{table}
 use Rattle.grid.specs.Grid.{grid}
 use Rattle.starting.specs.Propagate.{propagate_refusal}
@@ -10,28 +10,28 @@ use Rattle.refusals.proofs.RefusalLaws.{number_of-accepted, number_of-refused}
 use Rattle.starting.proofs.CheckLaws.{not-refused}
 use Rattle.starting.proofs.OutcomeLaws.{told-refused, told-empty, told-whole}
 use Rattle.starting.proofs.propagate.Goals as goal
-use Rattle.starting.proofs.propagate.Goals.{In-Accepted}
+use Rattle.starting.proofs.propagate.Goals.{In_ok-check}
 
 -- where nothing is refused
-accepted : (c : In-Accepted) →
+accepted : (c : In_ok-check) →
     let a = c.args in
     propagate_refusal (table a.count a.offsets.now a.ids.now) (grid a.width a.height a.mode) a.domains.now (length a.counts.now) (length a.pending.now) ≡ 0
-accepted c = sym c.check-verdict.ensures ∙ ap number_of c.in-Accepted.is ∙ number_of-accepted
+accepted c = sym c.in_ok-check.ensures ∙ number_of-accepted
 
 pub settle-contradiction-requires : goal.settle-contradiction-requires
 settle-contradiction-requires c =
-    let fit = not-refused _ _ _ _ _ (accepted (goal.at.settle-contradiction-requires c).In-Accepted) in
+    let fit = not-refused _ _ _ _ _ (accepted (goal.at.settle-contradiction-requires c).In_ok-check) in
     record { ground = fit.0; starting = fit.1 }
 
 pub returns-then-contradiction : goal.returns-then-contradiction
 returns-then-contradiction c =
-    told-empty _ _ _ _ _ (accepted (goal.at.returns-then-contradiction c).In-Accepted) c.settle-contradiction.ensures c.if-contradiction.true
+    told-empty _ _ _ _ _ (accepted (goal.at.returns-then-contradiction c).In_ok-check) c.settle-contradiction.ensures c.if-contradiction.true
 
-pub returns-in-Refused : goal.returns-in-Refused
-returns-in-Refused c =
-    told-refused _ _ _ _ _ c.in-Refused.refusal
-    (sym c.check-verdict.ensures ∙ ap number_of c.in-Refused.is ∙ number_of-refused _)
+pub returns-in_err-check : goal.returns-in_err-check
+returns-in_err-check c =
+    let (_, e, same) = err_from_is_err_and c.from_residual.result c.from_residual.ensures.1 in
+    rw (e, same) (told-refused _ _ _ _ _ _ (sym c.in_err-check.ensures ∙ number_of-refused _))
 
-pub returns-else-contradiction : goal.returns-else-contradiction
-returns-else-contradiction c =
-    told-whole _ _ _ _ _ (accepted (goal.at.returns-else-contradiction c).In-Accepted) c.settle-contradiction.ensures c.if-contradiction.false
+pub returns : goal.returns
+returns c =
+    told-whole _ _ _ _ _ (accepted (goal.at.returns c).In_ok-check) c.settle-contradiction.ensures c.if-contradiction.false

@@ -25,7 +25,7 @@ fn put_sentence(page: &mut Page, reason: usize)
     page.put_byte(b'\n');
 }
 
-// The same at the front of what is lent, and the next place.
+// The same at the front of what is lent, and the next place. By number, since it answers every number (docs/CONTRACTS.md, `reason_text`).
 pub fn put_reason(reason: usize, out: &mut [u8]) -> usize
     ensures result_after { page out.new result ≡ put (reason_text reason) (page out.old 0) }
     ensures upper_bound { result ≤ length out.old }

@@ -12,7 +12,7 @@ use Rattle.trace_c.proofs.choose_all.Given as goal
 
 abbrev pub invariant-loop-k : goal.invariant-loop-k
 invariant-loop-k l =
-    (Led (given (table l.count l.offsets l.ids) l.weights (grid l.width l.height l.mode) l.noise) (memory l.initial.domains l.initial.counts l.initial.pending l.initial.floats l.initial.marks) l.next (memory l.domains l.counts l.pending l.floats l.marks))
+    (Led (given (table l.count l.offsets l.ids) l.weights (grid l.width l.height l.mode) l.noise) (memory l.initial.domains l.initial.counts l.initial.pending l.initial.floats l.initial.marks) (memory l.domains l.counts l.pending l.floats l.marks))
     × (length l.places ≡ length l.initial.places) × (length l.entropies ≡ length l.initial.entropies) × (length l.words ≤ 65536) × (length l.initial.places ≡ 2 * length l.words) × (length l.initial.entropies ≡ length l.words)
 
 abbrev pub decreases-loop-k : goal.decreases-loop-k

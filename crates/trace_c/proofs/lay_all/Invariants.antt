@@ -11,7 +11,7 @@ use Rattle.trace_c.proofs.lay_all.Given as goal
 
 abbrev pub invariant-loop-i : goal.invariant-loop-i
 invariant-loop-i l =
-    Led (given (table l.count l.offsets l.ids) l.weights (grid l.width l.height l.mode) l.noise) (memory l.initial.domains l.initial.counts l.initial.pending l.initial.floats l.initial.marks) l.next (memory l.domains l.counts l.pending l.floats l.marks)
+    Led (given (table l.count l.offsets l.ids) l.weights (grid l.width l.height l.mode) l.noise) (memory l.initial.domains l.initial.counts l.initial.pending l.initial.floats l.initial.marks) (memory l.domains l.counts l.pending l.floats l.marks)
 
 abbrev pub decreases-loop-i : goal.decreases-loop-i
 decreases-loop-i l =

@@ -8,4 +8,4 @@ use Rattle.trace_c.proofs.start.Goals as goal
 pub lay_all-requires : goal.lay_all-requires
 lay_all-requires c =
     let m = memory c.args.domains.now c.args.counts.now c.args.pending.now c.args.floats.now c.args.marks.now in
-    begun_going _ m _ _ c.begin-code.ensures (room_same m (c.begin-code.auto.domains, (c.begin-code.auto.counts, (c.begin-code.auto.pending, (c.begin-code.auto.floats, (c.begin-code.auto.marks, tt {0}))))))
+    begun_going _ m _ c.in-Ok.ensures (room_same m (c.begin.auto.domains, (c.begin.auto.counts, (c.begin.auto.pending, (c.begin.auto.floats, (c.begin.auto.marks, tt {0}))))))

@@ -2,9 +2,8 @@
 ghost use Rattle.bounded.specs.Laid.{Front};
 
 use crate::inner::{Order, Problem, files};
-use bounded::inner::{Ground, Laid, memory};
+use bounded::inner::{Ground, memory};
 use chart::{Ocean, put_chart};
-use command::arguments::Fault;
 use command::sentences::{FileFault, put_fault, put_file_fault, put_refusal};
 use picture::{put_picture_head, put_picture_row, put_picture_tail};
 use std::io::Write;
@@ -98,20 +97,16 @@ pub(crate) fn run<R: Env + Files + Print>(
 {
     let mut domains: memory::Domains = room(0);
     let mut bytes: memory::Record = room(0);
-    match bounded::inner::lay(sheet, formed, noise, words, &mut domains, &mut bytes) {
-        Laid::Refused(number) => Err(Problem::refused(sheet, number)),
-        Laid::TooLarge => Err(Problem::Asked(Fault::TooLarge)),
-        Laid::Ended(end, used, length) => {
-            let ocean = Ocean {
-                width: ground.width,
-                height: ground.height,
-                mode: ground.mode,
-                named: order.names.sheet.is_none(),
-                end: end as usize,
-                words: used,
-                domains: front(&domains, ground.cells),
-            };
-            laid(rt, order, &ocean, front(&bytes, length))
-        }
-    }
+    let run = bounded::inner::lay(sheet, formed, noise, words, &mut domains, &mut bytes)
+        .map_err(|unfit| Problem::unfit(sheet, unfit))?;
+    let ocean = Ocean {
+        width: ground.width,
+        height: ground.height,
+        mode: ground.mode,
+        named: order.names.sheet.is_none(),
+        end: u32::from(run.end) as usize,
+        words: run.used,
+        domains: front(&domains, ground.cells),
+    };
+    laid(rt, order, &ocean, front(&bytes, run.size))
 }

@@ -1,20 +1,15 @@
--- `adjacency::inner::in_list` meets its contract. The invariant: x is in what is left exactly where it is in the whole.
+-- `adjacency::inner::in_list` meets its contract: some id is x.
 -- Assumes nothing.
-use mathlib.Core.Path.{refl}
-use native.Mathlib.Omega.{arith}
-use Rattle.loops.proofs.TestLaws.{elem-turn, elem-found, elem_end}
+use mathlib.Core.Path.{◌∙◌}
+use lib.Dec.{eqb}
+use Rattle.std.proofs.Common.{rules, tests}
+use Rattle.std.proofs.lemmas.Iterator.{YieldsList-from_slice}
+use Rattle.std.proofs.lemmas.Iterator.Search.{any_from_yields_List}
+use Rattle.loops.proofs.TestLaws.{any-elem}
 use Rattle.adjacency.proofs.inner.in_list.Goals as goal
 
-pub loop-i-init : goal.loop-i-init
-loop-i-init c = (omega arith, refl)
-
-pub returns-then-x-wide : goal.returns-then-x-wide
-returns-then-x-wide c =
-    elem-found _ _ c.loop-i-test.true c.wide.ensures c.if-x-wide.true c.loop-i.invariant.1
-
-pub loop-i-preserved : goal.loop-i-preserved
-loop-i-preserved c =
-    (omega arith, elem-turn _ _ c.loop-i-test.true c.wide.ensures c.if-x-wide.false c.loop-i.invariant.1)
-
 pub returns : goal.returns
-returns c = elem_end _ _ c.loop-i-test.false c.loop-i.invariant.1
+returns c =
+    let a = c.args in
+    any_from_yields_List (λ q. eqb a.x q) _ _ _ c.any.ensures.ran (YieldsList-from_slice a.list.now cc) (λ x b q k. search (rules, tests))
+    ∙ any-elem a.x a.list.now

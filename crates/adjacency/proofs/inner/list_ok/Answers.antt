@@ -1,25 +1,23 @@
--- `adjacency::inner::list_ok` meets its contract. The invariant: what is left is as it must be after the last id exactly where the whole list is.
+-- `adjacency::inner::list_ok` meets its contract: where there is a last id, it and the order decide.
 -- Assumes nothing.
 use mathlib.Core.Path.{sym}
 use native.Mathlib.Omega.{arith}
-use Rattle.adjacency.proofs.ListLaws.{rises-turn, rises-stop, rises-end, list_ok_none, list_ok-some}
+use lib.Dec.{ltb}
+use borrow.Author.Tests.{le-ltb}
+use Rattle.std.proofs.Common.{rules, tests}
+use Rattle.std.proofs.lemmas.List.Sorted.{answers_always}
+use Rattle.adjacency.proofs.ListLaws.{list_ok_none, list_ok-past, list_ok-sorted}
 use Rattle.adjacency.proofs.inner.list_ok.Goals as goal
 
-pub returns-then-list-eq0 : goal.returns-then-list-eq0
-returns-then-list-eq0 c = sym (list_ok_none _ _ c.if-list-eq0.true)
+pub returns-in_default : goal.returns-in_default
+returns-in_default c = let (_, _, _, none, _) = c.in_default.ensures.item in sym (list_ok_none _ _ (omega arith))
 
-pub loop-i-init : goal.loop-i-init
-loop-i-init c =
-    let none = c.if-list-eq0.false in
-    (omega arith, rw c.wide-last.ensures (list_ok-some _ _ none))
+pub returns-then-from-count : goal.returns-then-from-count
+returns-then-from-count c =
+    let (_, _, _, (some, last), _) = c.in-Some.ensures.item in
+    list_ok-sorted _ _ c.args.list.now some (rw (← last 0, ← c.from.ensures) c.if-from-count.true) (c.is_sorted_by.ensures.cases ltb (answers_always _ _ _ (λ f a r g k. search (rules, tests))))
 
-pub returns-then-q-last : goal.returns-then-q-last
-returns-then-q-last c =
-    rises-stop _ _ c.loop-i-test.true c.wide-q.ensures c.if-q-last.true c.loop-i.invariant.1
-
-pub loop-i-preserved : goal.loop-i-preserved
-loop-i-preserved c =
-    (omega arith, rises-turn _ _ c.loop-i-test.true c.wide-q.ensures c.if-q-last.false c.loop-i.invariant.1)
-
-pub returns : goal.returns
-returns c = rises-end _ _ c.loop-i.last c.loop-i-test.false c.loop-i.invariant.1
+pub returns-else-from-count : goal.returns-else-from-count
+returns-else-from-count c =
+    let (_, _, _, (some, last), _) = c.in-Some.ensures.item in
+    rw (le-ltb _ _ c.if-from-count.false) (sym (list_ok-past _ c.args.list.now some (rw (← last 0, ← c.from.ensures) c.if-from-count.false)))

@@ -11,23 +11,23 @@ use Rattle.adjacency.specs.Checks.{over_weight}
 use Rattle.loops.proofs.SumLaws.{sum_more, sum-up_to}
 use Rattle.adjacency.proofs.inner.over_weight.Goals as goal
 
-pub loop-p-init : goal.loop-p-init
+pub loop-weight-init : goal.loop-weight-init
 unfolding sum_to
-loop-p-init c = (omega arith, omega arith, refl)
+loop-weight-init c = (omega arith, refl)
 
-pub returns-then-sum-weights : goal.returns-then-sum-weights
+pub returns-then-sum-weight : goal.returns-then-sum-weight
 unfolding over_weight whole_weight
-returns-then-sum-weights c =
+returns-then-sum-weight c =
     let ws = c.args.weights.now in
-    sym (lt-ltb 1024 (sum_to (length ws) (weight_of ws)) (omega (arith, sum_more c.loop-p.p (weight_of ws), sum-up_to (c.loop-p.p + 1) (length ws) (weight_of ws) (omega arith))))
+    let i = c.loop-weight.weight-index in
+    sym (lt-ltb 1024 (sum_to (length ws) (weight_of ws)) (omega (arith, sum_more i (weight_of ws), sum-up_to (i + 1) (length ws) (weight_of ws) (omega arith))))
 
-pub loop-p-preserved : goal.loop-p-preserved
-loop-p-preserved c =
-    omega (arith, sum_more c.loop-p.p (weight_of c.args.weights.now))
+pub loop-weight-preserved : goal.loop-weight-preserved
+loop-weight-preserved c = omega (arith, sum_more c.loop-weight.weight-index (weight_of c.args.weights.now))
 
 pub returns : goal.returns
 unfolding over_weight whole_weight
 returns c =
     let ws = c.args.weights.now in
-    let end : c.loop-p.p ≡ length ws = omega arith in
+    let end : c.loop-weight.weight-index ≡ length ws = omega arith in
     sym (le-ltb 1024 (sum_to (length ws) (weight_of ws)) (omega (arith, ap (λ n. sum_to n (weight_of ws)) end)))

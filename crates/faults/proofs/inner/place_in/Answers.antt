@@ -12,28 +12,28 @@ use Rattle.faults.proofs.inner.place_in.Goals as goal
 pub returns-then-m-gt64 : goal.returns-then-m-gt64
 returns-then-m-gt64 c =
     let a = c.args in
-    let m = c.in-Sheet.m in
-    let (w, e) = sizes-some a.sheet.now m c.in-Sheet.is c.sizes.ensures in
+    let m = c.in-Ok.m in
+    let (w, e) = sizes-some a.sheet.now m c.in-Ok.is c.sizes.ensures in
     let size = (known a.sheet.now (formed a.sheet.now w) m e).count_same in
     place-many a.number a.sheet.now w (omega (arith, c.if-m-gt64.true))
 
 pub sheet_place-requires : goal.sheet_place-requires
 sheet_place-requires c =
     let a = c.args in
-    let m = c.in-Sheet.m in
-    let (w, e) = sizes-some a.sheet.now m c.in-Sheet.is c.sizes.ensures in
+    let m = c.in-Ok.m in
+    let (w, e) = sizes-some a.sheet.now m c.in-Ok.is c.sizes.ensures in
     let size = (known a.sheet.now (formed a.sheet.now w) m e).count_same in
     (w, omega (arith, c.if-m-gt64.false, count-is a.sheet.now (formed a.sheet.now w)), e)
 
-pub returns-in-Refused : goal.returns-in-Refused
-returns-in-Refused c =
+pub returns-in-Err : goal.returns-in-Err
+returns-in-Err c =
     let a = c.args in
-    place-unread a.number a.sheet.now c.in-Refused.is c.sizes.ensures
+    place-unread a.number a.sheet.now c.in-Err.is c.sizes.ensures
 
 pub returns-else-m-gt64 : goal.returns-else-m-gt64
 returns-else-m-gt64 c =
     let a = c.args in
-    let m = c.in-Sheet.m in
-    let (w, e) = sizes-some a.sheet.now m c.in-Sheet.is c.sizes.ensures in
+    let m = c.in-Ok.m in
+    let (w, e) = sizes-some a.sheet.now m c.in-Ok.is c.sizes.ensures in
     let size = (known a.sheet.now (formed a.sheet.now w) m e).count_same in
     c.sheet_place.ensures ∙ place-few a.number a.sheet.now w (omega (arith, c.if-m-gt64.false))

@@ -41,22 +41,22 @@ pub slice_bounds-offsets-end : goal.slice_bounds-offsets-end
 slice_bounds-offsets-end c =
     part-fits (4 * c.args.m.count + 1) c.fill.new.offsets (ap length (parts (goal.at.slice_bounds-offsets-end c).After-struct_known-1).offsets_in ∙ (measures (goal.at.slice_bounds-offsets-end c).After-struct_known-1).offsets_same)
 
-pub slice_bounds-place_at-end : goal.slice_bounds-place_at-end
-slice_bounds-place_at-end c = sym (ap length (parts (goal.at.slice_bounds-place_at-end c).After-struct_known-1).offsets_in ∙ (measures (goal.at.slice_bounds-place_at-end c).After-struct_known-1).offsets_same)
+pub slice_bounds-table-end : goal.slice_bounds-table-end
+slice_bounds-table-end c = sym (ap length (parts (goal.at.slice_bounds-table-end c).After-struct_known-1).offsets_in ∙ (measures (goal.at.slice_bounds-table-end c).After-struct_known-1).offsets_same)
 
 pub slice_bounds-ids-end : goal.slice_bounds-ids-end
 slice_bounds-ids-end c =
     part-fits c.args.m.ids c.fill.new.ids (ap length (parts (goal.at.slice_bounds-ids-end c).After-struct_known-1).ids_in ∙ (measures (goal.at.slice_bounds-ids-end c).After-struct_known-1).ids_same)
 
-pub slice_bounds-place_at-end-2 : goal.slice_bounds-place_at-end-2
-slice_bounds-place_at-end-2 c = sym (ap length (parts (goal.at.slice_bounds-place_at-end-2 c).After-struct_known-1).ids_in ∙ (measures (goal.at.slice_bounds-place_at-end-2 c).After-struct_known-1).ids_same)
+pub slice_bounds-table-end-2 : goal.slice_bounds-table-end-2
+slice_bounds-table-end-2 c = sym (ap length (parts (goal.at.slice_bounds-table-end-2 c).After-struct_known-1).ids_in ∙ (measures (goal.at.slice_bounds-table-end-2 c).After-struct_known-1).ids_same)
 
 pub slice_bounds-forbids-end : goal.slice_bounds-forbids-end
 slice_bounds-forbids-end c =
     part-fits (3 * c.args.m.forbids) c.fill.new.forbids (ap length (parts (goal.at.slice_bounds-forbids-end c).After-struct_known-1).forbids_in ∙ (measures (goal.at.slice_bounds-forbids-end c).After-struct_known-1).forbids_same)
 
-pub slice_bounds-place_at-end-3 : goal.slice_bounds-place_at-end-3
-slice_bounds-place_at-end-3 c = sym (ap length (parts (goal.at.slice_bounds-place_at-end-3 c).After-struct_known-1).forbids_in ∙ (measures (goal.at.slice_bounds-place_at-end-3 c).After-struct_known-1).forbids_same)
+pub slice_bounds-place_at-end : goal.slice_bounds-place_at-end
+slice_bounds-place_at-end c = sym (ap length (parts (goal.at.slice_bounds-place_at-end c).After-struct_known-1).forbids_in ∙ (measures (goal.at.slice_bounds-place_at-end c).After-struct_known-1).forbids_same)
 
 pub place_at-requires : goal.place_at-requires
 place_at-requires c =
@@ -66,5 +66,5 @@ place_at-requires c =
 pub returns : goal.returns
 returns c =
     let P = parts (goal.at.returns c).After-struct_known-1 in
-    c.place_at.ensures c.args.m.mode
+    c.place_at.ensures
     ∙ place_read (sheet_in c.args.sheet.now) c.args.m c.requires.2 P.offsets_in P.ids_in c.args.number P.forbids_in

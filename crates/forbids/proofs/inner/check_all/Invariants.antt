@@ -1,10 +1,15 @@
--- The first refusal from the forbid at the index on is the first of all.
-use Rattle.std.proofs.Common.{ℕ, length, ◌-◌}
-use Rattle.forbids.proofs.RecordLaws.{First}
+-- `forbids::inner::check_all` meets its contract. The invariant: the first refusal of the forbids from the index on is that of all.
+-- Assumes nothing.
+use mathlib.Core.List.{List}
+use mathlib.Core.Path.{◌≡◌}
+use Prim.Native.Nat.{ℕ}
+use lib.ListN.{drop}
+use Rattle.refusals.specs.Refusals.{first_of}
+use Rattle.adjacency.specs.Tables.{table}
+use Rattle.forbids.specs.Forbids.{forbid_tests}
 use Rattle.forbids.proofs.inner.check_all.Given as goal
 
-abbrev pub invariant-loop-i : goal.invariant-loop-i
-invariant-loop-i l = (r : ℕ) → First l.count l.width l.height l.forbids l.i r → First l.count l.width l.height l.forbids 0 r
-
-abbrev pub decreases-loop-i : goal.decreases-loop-i
-decreases-loop-i l = length l.forbids - l.i
+abbrev pub invariant-loop-forbid : goal.invariant-loop-forbid
+invariant-loop-forbid l =
+    (offsets ids : List ℕ)
+    → first_of (forbid_tests (table l.count offsets ids) l.grid (drop l.forbid-index l.forbids)) ≡ first_of (forbid_tests (table l.count offsets ids) l.grid l.forbids)

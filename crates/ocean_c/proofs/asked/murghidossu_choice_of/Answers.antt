@@ -1,24 +1,20 @@
 -- `ocean_c::asked::murghidossu_choice_of` meets its contract: each answer has its number.
 -- Assumes nothing.
 use mathlib.Core.Path.{sym, ap, ◌∙◌}
-use native.Mathlib.Omega.{arith}
 use Rattle.choice.specs.Asked.{choice_told}
-use Rattle.ocean_c.proofs.CodeLaws.{found-coded, none_coded, unfound_coded}
-use Rattle.ocean_c.proofs.BoundLaws.{choice-small}
+use Rattle.ocean_c.specs.Coded.{found_coded}
+use Rattle.ocean_c.proofs.CodeLaws.{unfound_coded}
+use Rattle.ocean_c.proofs.BoundLaws.{choice-few}
 use Rattle.ocean_c.proofs.asked.murghidossu_choice_of.Goals as goal
 
-pub accepted-requires : goal.accepted-requires
+pub found-requires : goal.found-requires
 unfolding choice_told
-accepted-requires c = (omega arith, choice-small _ _ _ _ _ (sym (ap choice_told c.in-Pattern.is) ∙ c.choice_of.ensures))
+found-requires c = choice-few _ _ _ _ _ (sym (ap choice_told c.in-Ok.is) ∙ c.choice_of.ensures)
 
-pub returns-in-Pattern : goal.returns-in-Pattern
+pub returns-in-Ok : goal.returns-in-Ok
 unfolding choice_told
-returns-in-Pattern c = found-coded (sym (ap choice_told c.in-Pattern.is) ∙ c.choice_of.ensures) c.accepted.ensures
+returns-in-Ok c = c.found.ensures ∙ ap found_coded (sym (ap choice_told c.in-Ok.is) ∙ c.choice_of.ensures)
 
-pub returns-in-Nothing : goal.returns-in-Nothing
+pub returns-in-Err : goal.returns-in-Err
 unfolding choice_told
-returns-in-Nothing c = none_coded (sym (ap choice_told c.in-Nothing.is) ∙ c.choice_of.ensures) c.accepted-in-Nothing.ensures
-
-pub returns-in-Refused : goal.returns-in-Refused
-unfolding choice_told
-returns-in-Refused c = unfound_coded (sym (ap choice_told c.in-Refused.is) ∙ c.choice_of.ensures) c.refused.ensures
+returns-in-Err c = unfound_coded (sym (ap choice_told c.in-Err.is) ∙ c.choice_of.ensures) c.refused.ensures

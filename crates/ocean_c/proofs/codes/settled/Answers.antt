@@ -3,11 +3,11 @@
 use Rattle.ocean_c.proofs.CodeLaws.{consistent-coded, contradiction_coded, unsettled_coded}
 use Rattle.ocean_c.proofs.codes.settled.Goals as goal
 
-pub returns-in-Consistent : goal.returns-in-Consistent
-returns-in-Consistent c = consistent-coded c.in-Consistent.is c.accepted.ensures
+pub returns-in-Ok-Consistent : goal.returns-in-Ok-Consistent
+returns-in-Ok-Consistent c = consistent-coded c.in-Ok-Consistent.is (rw c.in-Ok-Consistent.is at c.in-Ok-Consistent.field-0-is) c.accepted.ensures
 
-pub returns-in-Contradiction : goal.returns-in-Contradiction
-returns-in-Contradiction c = contradiction_coded c.in-Contradiction.is c.accepted-in-Contradiction.ensures
+pub returns-in-Ok-Contradiction : goal.returns-in-Ok-Contradiction
+returns-in-Ok-Contradiction c = contradiction_coded c.in-Ok-Contradiction.is (rw c.in-Ok-Contradiction.is at c.in-Ok-Contradiction.field-0-is) c.accepted-in-Ok-Contradiction.ensures
 
-pub returns-in-Refused : goal.returns-in-Refused
-returns-in-Refused c = unsettled_coded c.in-Refused.is c.refused.ensures
+pub returns-in-Err : goal.returns-in-Err
+returns-in-Err c = unsettled_coded c.in-Err.is c.refused.ensures

@@ -3,8 +3,8 @@
 use Rattle.ocean_c.proofs.CodeLaws.{read-coded, unread-coded}
 use Rattle.ocean_c.proofs.codes.was_read.Goals as goal
 
-pub returns-in-Sheet : goal.returns-in-Sheet
-returns-in-Sheet c = read-coded c.in-Sheet.is
+pub returns-in-Ok : goal.returns-in-Ok
+returns-in-Ok c = read-coded c.in-Ok.is
 
-pub returns-in-Refused : goal.returns-in-Refused
-returns-in-Refused c = unread-coded c.in-Refused.is c.refused.ensures
+pub returns-in-Err : goal.returns-in-Err
+returns-in-Err c = unread-coded c.in-Err.is c.refused.ensures

@@ -5,10 +5,10 @@ use Rattle.ocean_c.proofs.CodeLaws.{bytes-few, written-coded, unwritten-coded}
 use Rattle.ocean_c.proofs.codes.written.Goals as goal
 
 pub accepted-requires : goal.accepted-requires
-accepted-requires c = (omega arith, bytes-few c.in-Bytes.is c.requires)
+accepted-requires c = (omega arith, bytes-few c.in-Ok.is c.requires)
 
-pub returns-in-Bytes : goal.returns-in-Bytes
-returns-in-Bytes c = written-coded c.in-Bytes.is c.accepted.ensures
+pub returns-in-Ok : goal.returns-in-Ok
+returns-in-Ok c = written-coded c.in-Ok.is c.accepted.ensures
 
-pub returns-in-Refused : goal.returns-in-Refused
-returns-in-Refused c = unwritten-coded c.in-Refused.is c.refused.ensures
+pub returns-in-Err : goal.returns-in-Err
+returns-in-Err c = unwritten-coded c.in-Err.is c.refused.ensures

@@ -7,8 +7,8 @@ use Rattle.ocean_c.proofs.lists.murghidossu_list.Goals as goal
 
 pub part_of-requires : goal.part_of-requires
 unfolding number_of
-part_of-requires c = sym c.list_refusal.ensures ∙ ap number_of c.in-Accepted.is
+part_of-requires c = sym c.list_refusal.ensures ∙ ap number_of c.in-Ok.is
 
-pub returns-in-Refused : goal.returns-in-Refused
+pub returns-in-Err : goal.returns-in-Err
 unfolding number_of
-returns-in-Refused c = c.refused.ensures ∙ sym (list-refused _ _ _ c.in-Refused.refusal (sym c.list_refusal.ensures ∙ ap number_of c.in-Refused.is))
+returns-in-Err c = c.refused.ensures ∙ sym (list-refused _ _ _ c.in-Err.refusal (sym c.list_refusal.ensures ∙ ap number_of c.in-Err.is))

@@ -4,10 +4,10 @@ use mathlib.Core.Path.{sym, ap, ◌∙◌}
 use Rattle.refusals.specs.Refusals.{number_of}
 use Rattle.refusals.proofs.inner.number_of.Goals as goal
 
-pub returns-in-Accepted : goal.returns-in-Accepted
+pub returns-in-Ok : goal.returns-in-Ok
 unfolding number_of
-returns-in-Accepted c = ap number_of (sym c.in-Accepted.is)
+returns-in-Ok c = ap number_of (sym c.in-Ok.is)
 
-pub returns-in-Refused : goal.returns-in-Refused
+pub returns-in-Err : goal.returns-in-Err
 unfolding number_of
-returns-in-Refused c = c.number.ensures ∙ ap number_of (sym c.in-Refused.is)
+returns-in-Err c = c.from.ensures ∙ ap number_of (sym c.in-Err.is)

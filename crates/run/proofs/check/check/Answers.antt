@@ -3,7 +3,6 @@
 use mathlib.Core.Bool.{false}
 use mathlib.Core.Path.{◌≡◌, refl, sym, ◌∙◌}
 use Prim.Native.Nat.{◌+◌, ◌*◌}
-use native.Mathlib.Omega.{arith}
 use lib.ListN.{length}
 use Rattle.refusals.specs.Refusals.{number_of}
 use Rattle.adjacency.specs.Tables.{table}
@@ -28,7 +27,7 @@ wrap-good : (c : Else-bad_wrap) → let a = c.args in bad_wrap a.mode ≡ false
 wrap-good c = sym c.bad_wrap.ensures ∙ c.if-bad_wrap.false
 
 lengths_good : (c : Else-bad_lengths) → let a = c.args in bad_lengths a.count (a.height * a.width) a.weights.now a.offsets.now a.noise.now a.forbids (room a.domains a.counts a.pending a.floats a.marks) ≡ false
-lengths_good c = sym c.bad_lengths.ensures ∙ c.if-bad_lengths.false
+lengths_good c = rw c.cells.ensures at (sym c.bad_lengths.ensures ∙ c.if-bad_lengths.false)
 
 weight-good : (c : Else-over_weight) → let a = c.args in over_weight a.weights.now ≡ false
 weight-good c = sym c.over_weight.ensures ∙ c.if-over_weight.false
@@ -46,17 +45,17 @@ long : (c : Else-bad_lengths) → let a = c.args in length a.offsets.now ≡ 4 *
 long c = let (_, offsets, _, _, _) = lengths_granted _ _ _ _ _ _ _ (lengths_good c) in offsets_long _ _ offsets
 
 -- ---- the needs
-pub overflow_mul-height : goal.overflow_mul-height
-overflow_mul-height c = omega (arith, (sized c).few)
+pub cells-requires : goal.cells-requires
+cells-requires c = size-good (goal.at.cells-requires c).Else-bad_size
 
 pub bad_lengths-requires : goal.bad_lengths-requires
-bad_lengths-requires c = ((counted _ (count-good (goal.at.bad_lengths-requires c).Else-bad_count)).1, (sized c).few)
+bad_lengths-requires c = ((counted _ (count-good (goal.at.bad_lengths-requires c).Else-bad_count)).1, rw c.cells.ensures (sized (goal.at.bad_lengths-requires c).Else-bad_wrap).few)
 
 pub bad_list-requires : goal.bad_list-requires
 bad_list-requires c = long (goal.at.bad_list-requires c).Else-bad_lengths
 
 pub disagrees-requires : goal.disagrees-requires
-disagrees-requires c = listed _ (long (goal.at.disagrees-requires c).Else-bad_lengths) (list-good c)
+disagrees-requires c = listed _ (long (goal.at.disagrees-requires c).Else-bad_lengths) (list-good (goal.at.disagrees-requires c).Else-bad_list)
 
 -- ---- the returns
 pub returns-then-bad_count : goal.returns-then-bad_count
@@ -73,7 +72,7 @@ returns-then-bad_wrap c = sym (base_tests-is _ _ _ (count-good (goal.at.returns-
 
 pub returns-then-bad_lengths : goal.returns-then-bad_lengths
 unfolding number_of
-returns-then-bad_lengths c = sym (base_tests-is _ _ _ (count-good (goal.at.returns-then-bad_lengths c).Else-bad_count) (size-good (goal.at.returns-then-bad_lengths c).Else-bad_size) (wrap-good (goal.at.returns-then-bad_lengths c).Else-bad_wrap) (sym c.bad_lengths.ensures ∙ c.if-bad_lengths.true) refl refl refl)
+returns-then-bad_lengths c = sym (base_tests-is _ _ _ (count-good (goal.at.returns-then-bad_lengths c).Else-bad_count) (size-good (goal.at.returns-then-bad_lengths c).Else-bad_size) (wrap-good (goal.at.returns-then-bad_lengths c).Else-bad_wrap) (rw c.cells.ensures at (sym c.bad_lengths.ensures ∙ c.if-bad_lengths.true)) refl refl refl)
 
 pub returns-then-over_weight : goal.returns-then-over_weight
 unfolding number_of

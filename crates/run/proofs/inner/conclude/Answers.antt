@@ -1,75 +1,39 @@
--- `run::inner::conclude` meets its contract: the turns, a contradiction, or a refusal that changes nothing.
+-- `run::inner::conclude` meets its contract: the answer tells the end of the turns, and the domains are zero where that is a contradiction.
 -- Assumes nothing.
-use native.Mathlib.Omega.{arith}
-use Rattle.adjacency.specs.Tables.{table}
-use Rattle.grid.specs.Grid.{grid}
-use Rattle.course.specs.Run.{Given, given}
-use Rattle.course.specs.Called.{Memory, memory, outcome}
-use Rattle.run.specs.Answers.{answer_told}
-use Rattle.refusals.proofs.RefusalLaws.{first-most}
-use Rattle.run.proofs.StandingLaws.{conclude-standing, conclude-contradicted, conclude-refused}
+use mathlib.Core.Path.{◌≡◌, refl, ◌∙◌}
+use denote.Enum.Bare.{sameb}
+use lib.Dec.{eqb}
+use lib.ListN.{length}
+use Rattle.collapse.specs.declared.Ending.{Ending}
+use Rattle.collapse.specs.declared.Ending.TheVariants.{Decided, Undecided, Paused, Contradiction}
+use Rattle.collapse.specs.contracts.Ending.{the_type}
+use Rattle.collapse.specs.Endings.{end_number}
+use Rattle.course.specs.Called.{Memory, memory, room}
+use Rattle.run.proofs.StandingLaws.{standing-lent, standing_ground, standing-roomy, standing-marked, room_same, turns_concluded}
 use Rattle.run.proofs.inner.conclude.Goals as goal
 use Rattle.run.proofs.inner.conclude.Goals.{Start}
 
--- what the call is given, and the lent slices at entry
-abbrev input : Start → Given
-input s = given (table s.args.count s.args.offsets.now s.args.ids.now) s.args.weights.now (grid s.args.width s.args.height s.args.mode) s.args.noise.now
+-- an end is a contradiction where its number is 3
+is-contradiction : (e : Ending) → sameb the_type e Contradiction ≡ eqb (end_number e) 3
+is-contradiction Decided = refl
+is-contradiction Undecided = refl
+is-contradiction Paused = refl
+is-contradiction Contradiction = refl
 
+-- the lent slices at entry
 abbrev entry : Start → Memory
 entry s = memory s.args.domains.now s.args.counts.now s.args.pending.now s.args.floats.now s.args.marks.now
 
-pub turns-requires : goal.turns-requires
-turns-requires c = c.requires.standing c.if-code-eq0.true
-
-pub shape_of-domains-then-code-eq0 : goal.shape_of-domains-then-code-eq0
-shape_of-domains-then-code-eq0 c = c.turns.auto.domains
-
-pub shape_of-counts-then-code-eq0 : goal.shape_of-counts-then-code-eq0
-shape_of-counts-then-code-eq0 c = c.turns.auto.counts
-
-pub shape_of-pending-then-code-eq0 : goal.shape_of-pending-then-code-eq0
-shape_of-pending-then-code-eq0 c = c.turns.auto.pending
-
-pub shape_of-floats-then-code-eq0 : goal.shape_of-floats-then-code-eq0
-shape_of-floats-then-code-eq0 c = c.turns.auto.floats
-
-pub shape_of-marks-then-code-eq0 : goal.shape_of-marks-then-code-eq0
-shape_of-marks-then-code-eq0 c = c.turns.auto.marks
-
-pub returns-then-code-eq0 : goal.returns-then-code-eq0
-returns-then-code-eq0 c =
-    let called = c.turns in
-    let l = called.new in
-    conclude-standing (input (goal.at.returns-then-code-eq0 c).Start) c.args.words.now (entry (goal.at.returns-then-code-eq0 c).Start) c.if-code-eq0.true
-    {o = outcome (answer_told called.result) (memory l.domains l.counts l.pending l.floats l.marks)} called.ensures
-
-pub shape_of-domains-then-code-eq-CONTRADICTION : goal.shape_of-domains-then-code-eq-CONTRADICTION
-shape_of-domains-then-code-eq-CONTRADICTION c = c.finish.auto.domains
-
-pub shape_of-counts-then-code-eq-CONTRADICTION : goal.shape_of-counts-then-code-eq-CONTRADICTION
-shape_of-counts-then-code-eq-CONTRADICTION c = c.finish.auto.counts
-
-pub shape_of-pending-then-code-eq-CONTRADICTION : goal.shape_of-pending-then-code-eq-CONTRADICTION
-shape_of-pending-then-code-eq-CONTRADICTION c = c.finish.auto.pending
-
-pub shape_of-floats-then-code-eq-CONTRADICTION : goal.shape_of-floats-then-code-eq-CONTRADICTION
-shape_of-floats-then-code-eq-CONTRADICTION c = c.finish.auto.floats
-
-pub shape_of-marks-then-code-eq-CONTRADICTION : goal.shape_of-marks-then-code-eq-CONTRADICTION
-shape_of-marks-then-code-eq-CONTRADICTION c = c.finish.auto.marks
-
-pub returns-then-code-eq-CONTRADICTION : goal.returns-then-code-eq-CONTRADICTION
-returns-then-code-eq-CONTRADICTION c =
-    let called = c.finish in
-    let l = called.new in
-    conclude-contradicted (input (goal.at.returns-then-code-eq-CONTRADICTION c).Start) c.args.words.now (entry (goal.at.returns-then-code-eq-CONTRADICTION c).Start) c.if-code-eq-CONTRADICTION.true
-    {m' = memory l.domains l.counts l.pending l.floats l.marks} called.ensures
-
-pub refusal-requires : goal.refusal-requires
-refusal-requires c =
-    let (tests, e) = c.requires.tested c.if-code-eq-CONTRADICTION.false in
-    (omega (arith, c.if-code-eq0.false), omega (arith, e, first-most tests))
+pub collapse-stop-requires : goal.collapse-stop-requires
+collapse-stop-requires c =
+    let S = c.requires in
+    record { lent = standing-lent S; ground = standing_ground S; weighed = (S.laid.lawful.weighed, standing-roomy S, c.weighted_mask.ensures); marks_len = standing-marked S; laid = S.laid }
 
 pub returns : goal.returns
 returns c =
-    conclude-refused (input (goal.at.returns c).Start) c.args.words.now (entry (goal.at.returns c).Start) c.if-code-eq0.false c.if-code-eq-CONTRADICTION.false c.refusal.result c.refusal.ensures
+    let finished = c.finish in
+    let k = c.collapse-stop.new in
+    let l = finished.new in
+    turns_concluded c.requires c.args.words.now c.collapse-stop.result k.domains c.collapse-stop.ensures
+    {m' = memory l.domains l.counts l.pending l.floats l.marks} {r = room (length k.domains) (length k.counts) (length k.pending) (length k.floats) (length k.marks)} (c.eq-contradiction.ensures ∙ is-contradiction c.collapse-stop.result.end) finished.ensures
+    (room_same (entry (goal.at.returns c).Start) (c.collapse-stop.auto.domains, (c.collapse-stop.auto.counts, (c.collapse-stop.auto.pending, (c.collapse-stop.auto.floats, (c.collapse-stop.auto.marks, tt {0}))))))

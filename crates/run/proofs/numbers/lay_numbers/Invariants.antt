@@ -12,9 +12,8 @@ use Rattle.run.proofs.numbers.lay_numbers.Given as goal
 
 abbrev pub invariant-loop-i : goal.invariant-loop-i
 invariant-loop-i l =
-    Laying (given (table l.count l.offsets l.ids) l.weights (grid l.width l.height l.mode) l.noise) l.forbids l.code (memory l.initial.domains l.initial.counts l.initial.pending l.initial.floats l.initial.marks)
-    l.i l.next (memory l.domains l.counts l.pending l.floats l.marks)
+    Laying (given (table l.count l.offsets l.ids) l.weights (grid l.width l.height l.mode) l.noise) l.forbids (memory l.initial.domains l.initial.counts l.initial.pending l.initial.floats l.initial.marks)
+    l.i (memory l.domains l.counts l.pending l.floats l.marks)
 
 abbrev pub decreases-loop-i : goal.decreases-loop-i
-decreases-loop-i l =
-    length l.forbids / 3 - l.i
+decreases-loop-i l = length l.forbids / 3 - l.i

@@ -44,20 +44,20 @@ slice_bounds-judge_content-end c = sym (ap length (parts (goal.at.slice_bounds-j
 pub slice_bounds-offsets-end : goal.slice_bounds-offsets-end
 slice_bounds-offsets-end c = part-fits (4 * c.measure-m.result.count + 1) c.fill.new.offsets (ap length (parts (goal.at.slice_bounds-offsets-end c).After-measure-m).offsets_in ∙ (measures (goal.at.slice_bounds-offsets-end c).After-measure-m).offsets_same)
 
-pub slice_bounds-judge_content-end-2 : goal.slice_bounds-judge_content-end-2
-slice_bounds-judge_content-end-2 c = sym (ap length (parts (goal.at.slice_bounds-judge_content-end-2 c).After-measure-m).offsets_in ∙ (measures (goal.at.slice_bounds-judge_content-end-2 c).After-measure-m).offsets_same)
+pub slice_bounds-table-end : goal.slice_bounds-table-end
+slice_bounds-table-end c = sym (ap length (parts (goal.at.slice_bounds-table-end c).After-measure-m).offsets_in ∙ (measures (goal.at.slice_bounds-table-end c).After-measure-m).offsets_same)
 
 pub slice_bounds-ids-end : goal.slice_bounds-ids-end
 slice_bounds-ids-end c = part-fits c.measure-m.result.ids c.fill.new.ids (ap length (parts (goal.at.slice_bounds-ids-end c).After-measure-m).ids_in ∙ (measures (goal.at.slice_bounds-ids-end c).After-measure-m).ids_same)
 
-pub slice_bounds-judge_content-end-3 : goal.slice_bounds-judge_content-end-3
-slice_bounds-judge_content-end-3 c = sym (ap length (parts (goal.at.slice_bounds-judge_content-end-3 c).After-measure-m).ids_in ∙ (measures (goal.at.slice_bounds-judge_content-end-3 c).After-measure-m).ids_same)
+pub slice_bounds-table-end-2 : goal.slice_bounds-table-end-2
+slice_bounds-table-end-2 c = sym (ap length (parts (goal.at.slice_bounds-table-end-2 c).After-measure-m).ids_in ∙ (measures (goal.at.slice_bounds-table-end-2 c).After-measure-m).ids_same)
 
 pub slice_bounds-forbids-end : goal.slice_bounds-forbids-end
 slice_bounds-forbids-end c = part-fits (3 * c.measure-m.result.forbids) c.fill.new.forbids (ap length (parts (goal.at.slice_bounds-forbids-end c).After-measure-m).forbids_in ∙ (measures (goal.at.slice_bounds-forbids-end c).After-measure-m).forbids_same)
 
-pub slice_bounds-judge_content-end-4 : goal.slice_bounds-judge_content-end-4
-slice_bounds-judge_content-end-4 c = sym (ap length (parts (goal.at.slice_bounds-judge_content-end-4 c).After-measure-m).forbids_in ∙ (measures (goal.at.slice_bounds-judge_content-end-4 c).After-measure-m).forbids_same)
+pub slice_bounds-judge_content-end-2 : goal.slice_bounds-judge_content-end-2
+slice_bounds-judge_content-end-2 c = sym (ap length (parts (goal.at.slice_bounds-judge_content-end-2 c).After-measure-m).forbids_in ∙ (measures (goal.at.slice_bounds-judge_content-end-2 c).After-measure-m).forbids_same)
 
 pub judge_content-requires : goal.judge_content-requires
 judge_content-requires c = ap length (parts (goal.at.judge_content-requires c).After-measure-m).offsets_in ∙ (measures (goal.at.judge_content-requires c).After-measure-m).offsets_same

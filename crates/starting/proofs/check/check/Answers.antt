@@ -3,7 +3,6 @@
 use mathlib.Core.Bool.{false}
 use mathlib.Core.Path.{◌≡◌, refl, sym, ◌∙◌}
 use Prim.Native.Nat.{◌+◌, ◌*◌}
-use native.Mathlib.Omega.{arith}
 use lib.ListN.{length}
 use Rattle.refusals.specs.Refusals.{number_of}
 use Rattle.adjacency.specs.Tables.{table}
@@ -28,7 +27,7 @@ wrap-good : (c : Else-bad_wrap) → let a = c.args in bad_wrap a.mode ≡ false
 wrap-good c = sym c.bad_wrap.ensures ∙ c.if-bad_wrap.false
 
 lengths_good : (c : Else-bad_lengths) → let a = c.args in bad_lengths a.count a.offsets.now (a.height * a.width) (length a.domains.now) a.counts a.pending ≡ false
-lengths_good c = sym c.bad_lengths.ensures ∙ c.if-bad_lengths.false
+lengths_good c = rw c.cells.ensures at (sym c.bad_lengths.ensures ∙ c.if-bad_lengths.false)
 
 list-good : (c : Else-bad_list) → let a = c.args in bad_list (table a.count a.offsets.now a.ids.now) ≡ false
 list-good c = sym c.bad_list.ensures ∙ c.if-bad_list.false
@@ -40,20 +39,20 @@ sized : (c : Else-bad_wrap) → let a = c.args in Sized (grid a.width a.height a
 sized c = sized_of _ (size-good (goal.at.Else-bad_wrap c).Else-bad_size) (wrap-good c)
 
 -- ---- the needs
-pub overflow_mul-height : goal.overflow_mul-height
-overflow_mul-height c = omega (arith, (sized c).few)
+pub cells-requires : goal.cells-requires
+cells-requires c = size-good (goal.at.cells-requires c).Else-bad_size
 
 pub bad_lengths-requires : goal.bad_lengths-requires
-bad_lengths-requires c = ((counted _ (count-good (goal.at.bad_lengths-requires c).Else-bad_count)).1, (sized c).few)
+bad_lengths-requires c = ((counted _ (count-good (goal.at.bad_lengths-requires c).Else-bad_count)).1, rw c.cells.ensures (sized (goal.at.bad_lengths-requires c).Else-bad_wrap).few)
 
 long : (c : Else-bad_lengths) → let a = c.args in length a.offsets.now ≡ 4 * a.count + 1
 long c = offsets_long _ _ (lengths_facts _ _ _ _ _ _ (lengths_good c)).0
 
 pub bad_list-requires : goal.bad_list-requires
-bad_list-requires c = long c
+bad_list-requires c = long (goal.at.bad_list-requires c).Else-bad_lengths
 
 pub disagrees-requires : goal.disagrees-requires
-disagrees-requires c = listed _ (long (goal.at.disagrees-requires c).Else-bad_lengths) (list-good c)
+disagrees-requires c = listed _ (long (goal.at.disagrees-requires c).Else-bad_lengths) (list-good (goal.at.disagrees-requires c).Else-bad_list)
 
 pub bad_domains-requires : goal.bad_domains-requires
 bad_domains-requires c = (counted _ (count-good (goal.at.bad_domains-requires c).Else-bad_count)).1
@@ -73,7 +72,7 @@ returns-then-bad_wrap c = sym (propagate_refusal-is _ _ _ _ _ (count-good (goal.
 
 pub returns-then-bad_lengths : goal.returns-then-bad_lengths
 unfolding number_of
-returns-then-bad_lengths c = sym (propagate_refusal-is _ _ _ _ _ (count-good (goal.at.returns-then-bad_lengths c).Else-bad_count) (size-good (goal.at.returns-then-bad_lengths c).Else-bad_size) (wrap-good (goal.at.returns-then-bad_lengths c).Else-bad_wrap) (sym c.bad_lengths.ensures ∙ c.if-bad_lengths.true) refl refl refl)
+returns-then-bad_lengths c = sym (propagate_refusal-is _ _ _ _ _ (count-good (goal.at.returns-then-bad_lengths c).Else-bad_count) (size-good (goal.at.returns-then-bad_lengths c).Else-bad_size) (wrap-good (goal.at.returns-then-bad_lengths c).Else-bad_wrap) (rw c.cells.ensures at (sym c.bad_lengths.ensures ∙ c.if-bad_lengths.true)) refl refl refl)
 
 pub returns-then-bad_list : goal.returns-then-bad_list
 unfolding number_of

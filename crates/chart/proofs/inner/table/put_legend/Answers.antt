@@ -6,4 +6,4 @@ use Rattle.chart.proofs.inner.table.put_legend.Goals as goal
 
 pub returns : goal.returns
 unfolding legend_text
-returns c = rw (← c.count_holding.ensures, ← c.count_alike.ensures) (c.put_patterns.ensures ⨾ c.put_count.ensures ⨾ c.put_count-2.ensures)
+returns c = c.put_patterns.ensures ⨾ (rw c.count_holding.ensures at c.put_count.ensures) ⨾ (rw c.count_alike.ensures at c.put_count-2.ensures)

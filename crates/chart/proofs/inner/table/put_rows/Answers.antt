@@ -2,7 +2,6 @@
 -- Assumes nothing.
 use Rattle.std.proofs.Common.{◌≡◌, sym, ap, ◌∙◌, ℕ, ◌+◌, ◌*◌, [], ◌∷◌, ◌++◌, length, drop, arith, length-append}
 use Rattle.text.proofs.PageLaws.{one_more}
-use Rattle.chart.specs.Chart.{row_text}
 use Rattle.chart.proofs.ChartLaws.{chunk_row, chunk_rest}
 use Rattle.chart.proofs.inner.table.put_rows.Goals as goal
 

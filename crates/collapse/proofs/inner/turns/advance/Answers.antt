@@ -10,7 +10,7 @@ use Rattle.notes.specs.Beside.{Beside, beside_in}
 use Rattle.propagation.specs.Lent.{state_of}
 use Rattle.course.specs.Run.{Given, given}
 use Rattle.collapse.specs.Steps.{idle}
-use Rattle.collapse.proofs.TurnsLaws.{stop-over, stop-on, word-left}
+use Rattle.collapse.proofs.TurnsLaws.{stop-over, stop-emptied, stop-going, word-left}
 use Rattle.collapse.proofs.inner.turns.advance.Goals as goal
 use Rattle.collapse.proofs.inner.turns.advance.Goals.{Start}
 
@@ -27,7 +27,7 @@ turn-requires c = record { lent = c.requires.lent; ground = c.requires.ground; w
 pub overflow_add-result : goal.overflow_add-result
 overflow_add-result c =
     let l = c.turn.new in
-    omega (arith, word-left (input (goal.at.overflow_add-result c).Start) c.args.words.now c.args.used (entry (goal.at.overflow_add-result c).Start) (λ (pile : Pile). state_of c.args.count l.domains l.counts l.pending pile (beside_in (length l.domains) l.floats l.marks)) c.in-On.is c.turn.ensures.0, c.well_formed.1.1.1.1.1.1.1.1.1.1.1.0)
+    omega (arith, word-left (input (goal.at.overflow_add-result c).Start) c.args.words.now c.args.used (entry (goal.at.overflow_add-result c).Start) (λ (pile : Pile). state_of c.args.count l.domains l.counts l.pending pile (beside_in (length l.domains) l.floats l.marks)) c.in-Continue.is c.turn.ensures.0, c.well_formed.1.1.1.1.1.1.1.1.1.1.1.0)
 
 pub shape_of-domains-then-pile : goal.shape_of-domains-then-pile
 shape_of-domains-then-pile c = c.turn.auto.domains
@@ -46,31 +46,31 @@ shape_of-marks-then-pile c = c.turn.auto.marks
 
 pub returns-then-pile : goal.returns-then-pile
 returns-then-pile c =
-    (c.turn.result, stop-on _ c.in-On.is c.if-pile.true, c.turn.ensures.0, c.turn.ensures.1)
+    (c.turn.result, stop-emptied _ c.in-Continue.is c.if-pile.true, c.turn.ensures.0, c.turn.ensures.1)
 
-pub overflow_add-result-in-On : goal.overflow_add-result-in-On
-overflow_add-result-in-On c =
+pub overflow_add-result-in-Continue : goal.overflow_add-result-in-Continue
+overflow_add-result-in-Continue c =
     let l = c.turn.new in
-    omega (arith, word-left (input (goal.at.overflow_add-result-in-On c).Start) c.args.words.now c.args.used (entry (goal.at.overflow_add-result-in-On c).Start) (λ (pile : Pile). state_of c.args.count l.domains l.counts l.pending pile (beside_in (length l.domains) l.floats l.marks)) c.in-On.is c.turn.ensures.0, c.well_formed.1.1.1.1.1.1.1.1.1.1.1.0)
+    omega (arith, word-left (input (goal.at.overflow_add-result-in-Continue c).Start) c.args.words.now c.args.used (entry (goal.at.overflow_add-result-in-Continue c).Start) (λ (pile : Pile). state_of c.args.count l.domains l.counts l.pending pile (beside_in (length l.domains) l.floats l.marks)) c.in-Continue.is c.turn.ensures.0, c.well_formed.1.1.1.1.1.1.1.1.1.1.1.0)
 
-pub shape_of-domains-in-Over : goal.shape_of-domains-in-Over
-shape_of-domains-in-Over c = c.turn.auto.domains
+pub shape_of-domains-in-Break : goal.shape_of-domains-in-Break
+shape_of-domains-in-Break c = c.turn.auto.domains
 
-pub shape_of-counts-in-Over : goal.shape_of-counts-in-Over
-shape_of-counts-in-Over c = c.turn.auto.counts
+pub shape_of-counts-in-Break : goal.shape_of-counts-in-Break
+shape_of-counts-in-Break c = c.turn.auto.counts
 
-pub shape_of-pending-in-Over : goal.shape_of-pending-in-Over
-shape_of-pending-in-Over c = c.turn.auto.pending
+pub shape_of-pending-in-Break : goal.shape_of-pending-in-Break
+shape_of-pending-in-Break c = c.turn.auto.pending
 
-pub shape_of-floats-in-Over : goal.shape_of-floats-in-Over
-shape_of-floats-in-Over c = c.turn.auto.floats
+pub shape_of-floats-in-Break : goal.shape_of-floats-in-Break
+shape_of-floats-in-Break c = c.turn.auto.floats
 
-pub shape_of-marks-in-Over : goal.shape_of-marks-in-Over
-shape_of-marks-in-Over c = c.turn.auto.marks
+pub shape_of-marks-in-Break : goal.shape_of-marks-in-Break
+shape_of-marks-in-Break c = c.turn.auto.marks
 
-pub returns-in-Over : goal.returns-in-Over
-returns-in-Over c =
-    (c.turn.result, stop-over _ c.in-Over.is, c.turn.ensures.0, c.turn.ensures.1)
+pub returns-in-Break : goal.returns-in-Break
+returns-in-Break c =
+    (c.turn.result, stop-over _ c.in-Break.is, c.turn.ensures.0, c.turn.ensures.1)
 
 pub shape_of-domains-else-pile : goal.shape_of-domains-else-pile
 shape_of-domains-else-pile c = c.turn.auto.domains
@@ -89,4 +89,4 @@ shape_of-marks-else-pile c = c.turn.auto.marks
 
 pub returns-else-pile : goal.returns-else-pile
 returns-else-pile c =
-    (c.turn.result, stop-on _ c.in-On.is c.if-pile.false, c.turn.ensures.0, c.turn.ensures.1)
+    (c.turn.result, stop-going _ c.in-Continue.is c.if-pile.false, c.turn.ensures.0, c.turn.ensures.1)

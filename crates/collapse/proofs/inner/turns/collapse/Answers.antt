@@ -51,20 +51,20 @@ take_turns-requires c =
     let a = c.args in
     let record { lent = lent; ground = ground; weighed = (weighed, roomy, masked); marks_len = long; laid = laid } = c.requires in record { lent = lent; ground = ground; weighed = (weighed, roomy-at (looked-length (goal.at.take_turns-requires c).After-observe) roomy, masked); marks_len = (looked-length (goal.at.take_turns-requires c).After-observe ∙ long, observed-found a.noise.now a.weighted a.domains.now a.floats.now _ (c.forget.auto.marks ∙ long) c.observe.ensures.1); laid = laid-at a.count a.domains.now a.counts.now a.pending.now a.floats.now a.marks.now _ laid (looked-cut (goal.at.take_turns-requires c).After-observe) }
 
-pub shape_of-marks-in-Nothing : goal.shape_of-marks-in-Nothing
-shape_of-marks-in-Nothing c = looked-length (goal.at.shape_of-marks-in-Nothing c).After-observe
+pub shape_of-marks-in-None : goal.shape_of-marks-in-None
+shape_of-marks-in-None c = looked-length (goal.at.shape_of-marks-in-None c).After-observe
 
-pub returns-in-Nothing : goal.returns-in-Nothing
-returns-in-Nothing c =
+pub returns-in-None : goal.returns-in-None
+returns-in-None c =
     let a = c.args in
     let record { lent = _; ground = ground; weighed = (_, _, masked); marks_len = long; laid = _ } = c.requires in
-    first-over (input (goal.at.returns-in-Nothing c).Start) a.words.now (entry (goal.at.returns-in-Nothing c).Start) refl
-    (turn-still (input (goal.at.returns-in-Nothing c).Start) a.words.now 0 (entry (goal.at.returns-in-Nothing c).Start)
+    first-over (input (goal.at.returns-in-None c).Start) a.words.now (entry (goal.at.returns-in-None c).Start) _ refl
+    (turn-still (input (goal.at.returns-in-None c).Start) a.words.now 0 (entry (goal.at.returns-in-None c).Start)
     (forgotten-observed a.weighted a.noise.now a.domains.now a.floats.now a.marks.now long c.forget.ensures c.observe.ensures.0)
-    ground.all masked refl c.in-Nothing.is c.still_end.ensures)
+    ground.all masked refl c.in-None.is c.still_end.ensures)
 
-pub shape_of-domains-in-Cell : goal.shape_of-domains-in-Cell
-shape_of-domains-in-Cell c = c.take_turns.auto.domains
+pub shape_of-domains-in-Some : goal.shape_of-domains-in-Some
+shape_of-domains-in-Some c = c.take_turns.auto.domains
 
 pub shape_of-counts : goal.shape_of-counts
 shape_of-counts c = c.take_turns.auto.counts
@@ -72,16 +72,16 @@ shape_of-counts c = c.take_turns.auto.counts
 pub shape_of-pending : goal.shape_of-pending
 shape_of-pending c = c.take_turns.auto.pending
 
-pub shape_of-floats-in-Cell : goal.shape_of-floats-in-Cell
-shape_of-floats-in-Cell c = c.take_turns.auto.floats
+pub shape_of-floats-in-Some : goal.shape_of-floats-in-Some
+shape_of-floats-in-Some c = c.take_turns.auto.floats
 
-pub shape_of-marks-in-Cell : goal.shape_of-marks-in-Cell
-shape_of-marks-in-Cell c = c.take_turns.auto.marks ∙ looked-length (goal.at.shape_of-marks-in-Cell c).After-observe
+pub shape_of-marks-in-Some : goal.shape_of-marks-in-Some
+shape_of-marks-in-Some c = c.take_turns.auto.marks ∙ looked-length (goal.at.shape_of-marks-in-Some c).After-observe
 
-pub returns-in-Cell : goal.returns-in-Cell
-returns-in-Cell c =
+pub returns-in-Some : goal.returns-in-Some
+returns-in-Some c =
     let a = c.args in
     c.take_turns.ensures
-    ∙ ap (λ (m : List ℕ). collapse (input (goal.at.returns-in-Cell c).Start) a.words.now (cells (grid a.width a.height a.mode) + 1) 0
+    ∙ ap (λ (m : List ℕ). collapse (input (goal.at.returns-in-Some c).Start) a.words.now (cells (grid a.width a.height a.mode) + 1) 0
     (state_of a.count a.domains.now a.counts.now a.pending.now idle (beside a.floats.now m)))
-    (looked-cut (goal.at.returns-in-Cell c).After-observe)
+    (looked-cut (goal.at.returns-in-Some c).After-observe)

@@ -40,7 +40,7 @@ offset_bounds-words-used c = omega (arith, c.if-used-words.true, c.well_formed.1
 pub choose_at-requires : goal.choose_at-requires
 choose_at-requires c =
     let record { lent = lent; ground = ground; weighed = (weighed, roomy, masked, lookups); sightly = _ } = c.requires in
-    let is = c.in-Cell.is in record { lent = lent; ground = ground; alongside = (alongside-at {marks' = c.observe.new.marks} {floats' = c.args.floats.now} refl refl c.observe.auto.marks (record { weighed = weighed; marked = roomy.marked; roomy = λ p h. roomy }), masked, lookups); cell_in_bounds = (cell-inside (input (goal.at.choose_at-requires c).Start) c.args.words.now c.args.used (entry (goal.at.choose_at-requires c).Start) (observed (goal.at.choose_at-requires c).After-observe) ground.all masked is, cell-weight (input (goal.at.choose_at-requires c).Start) c.args.words.now c.args.used (entry (goal.at.choose_at-requires c).Start) (observed (goal.at.choose_at-requires c).After-observe) ground.all masked is) }
+    let is = c.in-Some.is in record { lent = lent; ground = ground; alongside = (alongside-at {marks' = c.observe.new.marks} {floats' = c.args.floats.now} refl refl c.observe.auto.marks (record { weighed = weighed; marked = roomy.marked; roomy = λ p h. roomy }), masked, lookups); cell_in_bounds = (cell-inside (input (goal.at.choose_at-requires c).Start) c.args.words.now c.args.used (entry (goal.at.choose_at-requires c).Start) (observed (goal.at.choose_at-requires c).After-observe) ground.all masked is, cell-weight (input (goal.at.choose_at-requires c).Start) c.args.words.now c.args.used (entry (goal.at.choose_at-requires c).Start) (observed (goal.at.choose_at-requires c).After-observe) ground.all masked is) }
 
 pub shape_of-domains-then-used-words : goal.shape_of-domains-then-used-words
 shape_of-domains-then-used-words c = c.choose_at.auto.domains
@@ -66,17 +66,17 @@ returns-then-used-words c =
       turn-from (input (goal.at.returns-then-used-words c).Start) a.words.now a.used (entry (goal.at.returns-then-used-words c).Start) (observed (goal.at.returns-then-used-words c).After-observe) c.requires.ground.all c.requires.weighed.2 refl
           (ap (λ (m : List ℕ). state_of a.count a.domains.now a.counts.now a.pending.now idle (beside a.floats.now m))
           (observed-cut a.noise.now a.weighted a.domains.now a.floats.now a.marks.now sight.marked c.observe.ensures.1))
-          {s' = state_of a.count l.domains l.counts l.pending called.result (beside_in (length l.domains) l.floats l.marks)} c.in-Cell.is c.if-used-words.true called.ensures.0,
+          {s' = state_of a.count l.domains l.counts l.pending called.result (beside_in (length l.domains) l.floats l.marks)} c.in-Some.is c.if-used-words.true called.ensures.0,
       chosen-found a.noise.now a.weighted a.domains.now a.floats.now a.marks.now sight.marked c.observe.ensures.1 l.domains l.floats l.marks
           called.auto.domains called.ensures.1,
     )
 
-pub shape_of-marks-in-Nothing : goal.shape_of-marks-in-Nothing
-shape_of-marks-in-Nothing c = c.observe.auto.marks
+pub shape_of-marks-in-None : goal.shape_of-marks-in-None
+shape_of-marks-in-None c = c.observe.auto.marks
 
-pub returns-in-Nothing : goal.returns-in-Nothing
-returns-in-Nothing c = (
-  turn-still (input (goal.at.returns-in-Nothing c).Start) c.args.words.now c.args.used (entry (goal.at.returns-in-Nothing c).Start) (observed (goal.at.returns-in-Nothing c).After-observe) c.requires.ground.all c.requires.weighed.2 refl c.in-Nothing.is c.still_end.ensures,
+pub returns-in-None : goal.returns-in-None
+returns-in-None c = (
+  turn-still (input (goal.at.returns-in-None c).Start) c.args.words.now c.args.used (entry (goal.at.returns-in-None c).Start) (observed (goal.at.returns-in-None c).After-observe) c.requires.ground.all c.requires.weighed.2 refl c.in-None.is c.still_end.ensures,
   observed-found c.args.noise.now c.args.weighted c.args.domains.now c.args.floats.now c.args.marks.now c.requires.sightly.marked c.observe.ensures.1,
 )
 
@@ -85,6 +85,6 @@ shape_of-marks-else-used-words c = c.observe.auto.marks
 
 pub returns-else-used-words : goal.returns-else-used-words
 returns-else-used-words c = (
-  turn-paused (input (goal.at.returns-else-used-words c).Start) c.args.words.now c.args.used (entry (goal.at.returns-else-used-words c).Start) (observed (goal.at.returns-else-used-words c).After-observe) c.requires.ground.all c.requires.weighed.2 refl c.in-Cell.is c.if-used-words.false,
+  turn-paused (input (goal.at.returns-else-used-words c).Start) c.args.words.now c.args.used (entry (goal.at.returns-else-used-words c).Start) (observed (goal.at.returns-else-used-words c).After-observe) c.requires.ground.all c.requires.weighed.2 refl c.in-Some.is c.if-used-words.false,
   observed-found c.args.noise.now c.args.weighted c.args.domains.now c.args.floats.now c.args.marks.now c.requires.sightly.marked c.observe.ensures.1,
 )

@@ -2,11 +2,10 @@
 -- Assumes nothing.
 use mathlib.Core.Path.{◌≡◌, sym, ap, ◌∙◌}
 use Prim.Native.Nat.{ℕ}
-use native.Mathlib.Omega.{arith}
 use lib.ListN.{get_or-eq_default}
 use Rattle.loops.specs.Tests.{elem}
 use Rattle.directions.specs.Directions.{opposite}
-use Rattle.adjacency.specs.Tables.{table, list_of}
+use Rattle.adjacency.specs.Tables.{list_of}
 use Rattle.faults.specs.Places.{answers_in}
 use Rattle.directions.proofs.DirectionLaws.{opposite-below}
 use Rattle.adjacency.proofs.ListLaws.{all_below-at}
@@ -18,12 +17,11 @@ use Rattle.faults.proofs.inner.search.unanswered.Goals.{After-in_list}
 -- what was found of entry i
 found : (c : After-in_list) →
     let a = c.args in
-    answers_in (table a.count a.offsets.now a.ids.now) a.p a.d c.list_of-list.result.now c.loop-i.i ≡ c.in_list.result
+    answers_in a.table.now a.p a.d c.list_of-list.result.now c.loop-id.id-index ≡ c.in_list.result
 found c =
     let a = c.args in
-    let t = table a.count a.offsets.now a.ids.now in
     let back = c.opposite_of-back.ensures in
-    ap (λ (q : ℕ). elem a.p (list_of t q (opposite a.d))) (sym c.wide-q.ensures)
+    ap (λ (q : ℕ). elem a.p (list_of a.table.now q (opposite a.d))) (sym c.from-q.ensures)
     ∙ ap (elem _) (ap (list_of _ _) (sym back) ∙ sym c.list_of.ensures) ∙ sym c.in_list.ensures
 
 pub list_of-list-requires : goal.list_of-list-requires
@@ -34,8 +32,8 @@ list_of-list-requires c =
 pub opposite_of-back-requires : goal.opposite_of-back-requires
 opposite_of-back-requires c = c.requires.2
 
-pub loop-i-init : goal.loop-i-init
-loop-i-init c = (omega arith, search_begun _ _)
+pub loop-id-init : goal.loop-id-init
+loop-id-init c = search_begun _ _
 
 pub list_of-requires : goal.list_of-requires
 list_of-requires c =
@@ -43,22 +41,22 @@ list_of-requires c =
     let l = c.list_of-list in
     let (listed, hp, hd) = c.requires in (
       listed.laid,
-      rw c.wide-q.ensures (all_below-at l.result.now (rw l.ensures (listed.below a.p a.d hp hd)) _ c.loop-i-test.true),
+      rw c.from-q.ensures (all_below-at l.result.now (rw l.ensures (listed.below a.p a.d hp hd)) _ c.loop-id-test.true),
       rw c.opposite_of-back.ensures (opposite-below a.d hd),
     )
 
 pub returns-then-not-in_list : goal.returns-then-not-in_list
 returns-then-not-in_list c =
     unanswered-is _ _ _ c.list_of-list.ensures
-    (search_stop _ _ c.loop-i.invariant.1 c.loop-i-test.true (found (goal.at.returns-then-not-in_list c).After-in_list ∙ c.if-not-in_list.true))
-    c.wide-q.ensures
+    (search_stop _ _ c.loop-id.invariant c.loop-id-test.true (found (goal.at.returns-then-not-in_list c).After-in_list ∙ c.if-not-in_list.true))
+    c.from-q.ensures
 
-pub loop-i-preserved : goal.loop-i-preserved
-loop-i-preserved c =
-    (omega arith, search_turn _ _ c.loop-i.invariant.1 c.loop-i-test.true (found (goal.at.loop-i-preserved c).After-in_list ∙ c.if-not-in_list.false))
+pub loop-id-preserved : goal.loop-id-preserved
+loop-id-preserved c =
+    search_turn _ _ c.loop-id.invariant c.loop-id-test.true (found (goal.at.loop-id-preserved c).After-in_list ∙ c.if-not-in_list.false)
 
 pub returns : goal.returns
 returns c =
     let l = c.list_of-list in
-    unanswered-is _ _ _ l.ensures (search_end _ _ c.loop-i.invariant.1 c.loop-i-test.false)
-    (sym (get_or-eq_default l.result.now 0 c.loop-i-test.false))
+    unanswered-is _ _ _ l.ensures (search_end _ _ c.loop-id.invariant c.loop-id-test.false)
+    (sym (get_or-eq_default l.result.now 0 c.loop-id-test.false))

@@ -2,7 +2,6 @@
 -- Assumes nothing.
 use mathlib.Core.Path.{◌≡◌}
 use Rattle.records.specs.Laying.{pen, laid}
-use Rattle.adjacency.specs.Tables.{table}
 use Rattle.layout.specs.Sheet.{list_bytes}
 use Rattle.layout.specs.Tables.{lists_of}
 use Rattle.layout.proofs.WritingLaws.{bytes_from}
@@ -10,4 +9,4 @@ use Rattle.layout.proofs.inner.writing.lay_each_list.Given as goal
 
 abbrev pub invariant-loop-k : goal.invariant-loop-k
 invariant-loop-k l =
-    laid (bytes_from (table l.count l.offsets l.ids) l.k) (pen l.out l.place) ≡ laid (list_bytes (lists_of (table l.count l.offsets l.ids))) (pen l.initial.out l.at)
+    laid (bytes_from l.table l.k) (pen l.out l.place) ≡ laid (list_bytes (lists_of l.table)) (pen l.initial.out l.at)

@@ -4,7 +4,6 @@ use mathlib.Core.List.{[], ◌∷◌}
 use native.Mathlib.Omega.{arith}
 use lib.ListN.{length}
 use Rattle.records.specs.Numbers.{u16s}
-use Rattle.adjacency.specs.Tables.{table}
 use Rattle.layout.specs.Sheet.{list_bytes, bytes_of}
 use Rattle.layout.specs.Tables.{lists_of, sheet_for}
 use Rattle.records.proofs.NumberLaws.{length-u16s}
@@ -28,7 +27,7 @@ pub lay_grid-place-requires : goal.lay_grid-place-requires
 lay_grid-place-requires c =
     let S = c.requires.0 in
     let z = S.sized in
-    (omega (arith, z.narrow), omega (arith, z.low), omega (arith, z.known), omega (arith, S.weighed.one_each, pen-length _ _ _ c.lay_weights-place.ensures, pen-place _ _ _ c.lay_weights-place.ensures, length-record_of 1 (u16s (length c.args.weights.now ∷ c.args.weights.now)), length-u16s (length c.args.weights.now ∷ c.args.weights.now), pen-length _ _ _ c.lay_lists-place.ensures, pen-place _ _ _ c.lay_lists-place.ensures, length-record_of 2 (list_bytes (lists_of (table c.args.count c.args.offsets.now c.args.ids.now))), list_bytes-length (table c.args.count c.args.offsets.now c.args.ids.now) c.requires.0.accepted.listed))
+    (omega (arith, z.narrow), omega (arith, z.low), omega (arith, z.known), omega (arith, S.weighed.one_each, pen-length _ _ _ c.lay_weights-place.ensures, pen-place _ _ _ c.lay_weights-place.ensures, length-record_of 1 (u16s (length c.args.weights.now ∷ c.args.weights.now)), length-u16s (length c.args.weights.now ∷ c.args.weights.now), pen-length _ _ _ c.lay_lists-place.ensures, pen-place _ _ _ c.lay_lists-place.ensures, length-record_of 2 (list_bytes (lists_of c.args.table.now)), list_bytes-length c.args.table.now c.requires.0.accepted.listed))
 
 pub lay_forbids-requires : goal.lay_forbids-requires
 lay_forbids-requires c =
@@ -36,7 +35,7 @@ lay_forbids-requires c =
     let z = S.sized in (
       S.numbered,
       S.few,
-      omega (arith, S.weighed.one_each, pen-length _ _ _ c.lay_weights-place.ensures, pen-place _ _ _ c.lay_weights-place.ensures, length-record_of 1 (u16s (length c.args.weights.now ∷ c.args.weights.now)), length-u16s (length c.args.weights.now ∷ c.args.weights.now), pen-length _ _ _ c.lay_lists-place.ensures, pen-place _ _ _ c.lay_lists-place.ensures, length-record_of 2 (list_bytes (lists_of (table c.args.count c.args.offsets.now c.args.ids.now))), list_bytes-length (table c.args.count c.args.offsets.now c.args.ids.now) c.requires.0.accepted.listed, pen-length _ _ _ c.lay_grid-place.ensures, pen-place _ _ _ c.lay_grid-place.ensures, length-record_of 3 (u16s (c.args.width ∷ c.args.height ∷ c.args.mode ∷ [])), length-u16s (c.args.width ∷ c.args.height ∷ c.args.mode ∷ [])),
+      omega (arith, S.weighed.one_each, pen-length _ _ _ c.lay_weights-place.ensures, pen-place _ _ _ c.lay_weights-place.ensures, length-record_of 1 (u16s (length c.args.weights.now ∷ c.args.weights.now)), length-u16s (length c.args.weights.now ∷ c.args.weights.now), pen-length _ _ _ c.lay_lists-place.ensures, pen-place _ _ _ c.lay_lists-place.ensures, length-record_of 2 (list_bytes (lists_of c.args.table.now)), list_bytes-length c.args.table.now c.requires.0.accepted.listed, pen-length _ _ _ c.lay_grid-place.ensures, pen-place _ _ _ c.lay_grid-place.ensures, length-record_of 3 (u16s (c.args.grid.width ∷ c.args.grid.height ∷ c.args.grid.mode ∷ [])), length-u16s (c.args.grid.width ∷ c.args.grid.height ∷ c.args.grid.mode ∷ [])),
     )
 
 pub returns : goal.returns

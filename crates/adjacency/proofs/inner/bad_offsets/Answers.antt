@@ -1,9 +1,0 @@
--- `adjacency::inner::bad_offsets` meets its contract: the test is the definition's.
--- Assumes nothing.
-use mathlib.Core.Path.{refl}
-use Rattle.adjacency.specs.Checks.{offsets_misfit}
-use Rattle.adjacency.proofs.inner.bad_offsets.Goals as goal
-
-pub returns : goal.returns
-unfolding offsets_misfit
-returns c = refl
