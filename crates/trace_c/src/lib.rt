@@ -22,10 +22,7 @@ struct Made {
 
 // A cell or a pattern as 32 bits; there are none past them.
 fn narrow(x: usize) -> u32 {
-    if x < 4294967295 {
-        return x as u32;
-    }
-    4294967295
+    u32::try_from(x).unwrap_or(u32::MAX)
 }
 
 // Lays a forbid; whether the run goes on, which it does not where the forbid is not of the grid or empties a cell.
@@ -84,8 +81,7 @@ fn lay_all(
     requires { Standing (given (table count offsets.now ids.now) weights.now (grid width height mode) noise.now) (memory domains.old counts.old pending.old floats.old marks.old) }
     ensures { Going (given (table count offsets.now ids.now) weights.now (grid width height mode) noise.now) result (memory domains.new counts.new pending.new floats.new marks.new) }
 {
-    let mut i = 0;
-    while i < forbids.len() / 3 {
+    for i in 0..forbids.len() / 3 {
         if !lay(
             forbids[3 * i],
             forbids[3 * i + 1],
@@ -107,7 +103,6 @@ fn lay_all(
         ) {
             return false;
         }
-        i += 1;
     }
     true
 }
@@ -160,8 +155,8 @@ fn start(
 
 // The pattern that a word chooses at a cell, or `count` where there is none.
 fn pattern_at(count: usize, weights: &[u32], domains: &[u64], cell: usize, word: u32) -> usize {
-    if cell < domains.len() {
-        if let Ok(Some(pattern)) = choice::choice_of(count, weights, domains[cell], word) {
+    if let Some(domain) = domains.get(cell) {
+        if let Ok(Some(pattern)) = choice::choice_of(count, weights, *domain, word) {
             return pattern;
         }
     }
@@ -230,8 +225,7 @@ fn choose_all(
     requires standing { Standing (given (table count offsets.now ids.now) weights.now (grid width height mode) noise.now) (memory domains.old counts.old pending.old floats.old marks.old) }
     requires words_len_bound { (length words.now ≤ 65536) × (length places.old ≡ 2 * length words.now) × (length entropies.old ≡ length words.now) }
 {
-    let mut k = 0;
-    while k < words.len() {
+    for k in 0..words.len() {
         let Some(made) = choose(
             words[k], count, width, height, mode, weights, offsets, ids, noise, words, domains,
             counts, pending, floats, marks,
@@ -241,12 +235,11 @@ fn choose_all(
         places[2 * k] = made.cell;
         places[2 * k + 1] = made.pattern;
         entropies[k] = made.entropy;
-        k += 1;
         if !made.goes {
-            return k;
+            return k + 1;
         }
     }
-    k
+    words.len()
 }
 
 // The choices of a run, of forbids that are lent as numbers: for each of at most 65,536 words a cell and a pattern, and an entropy. The answer is how many were made.

@@ -1,7 +1,5 @@
 -- `trace_c::lay_all` meets its contract. The invariant: the steps so far lead where the next may go on.
 -- Assumes nothing.
-use Prim.Native.Nat.{◌-◌, ◌/◌}
-use lib.ListN.{length}
 use Rattle.adjacency.specs.Tables.{table}
 use Rattle.grid.specs.Grid.{grid}
 use Rattle.course.specs.Run.{given}
@@ -12,7 +10,3 @@ use Rattle.trace_c.proofs.lay_all.Given as goal
 abbrev pub invariant-loop-i : goal.invariant-loop-i
 invariant-loop-i l =
     Led (given (table l.count l.offsets l.ids) l.weights (grid l.width l.height l.mode) l.noise) (memory l.initial.domains l.initial.counts l.initial.pending l.initial.floats l.initial.marks) (memory l.domains l.counts l.pending l.floats l.marks)
-
-abbrev pub decreases-loop-i : goal.decreases-loop-i
-decreases-loop-i l =
-    length l.forbids / 3 - l.i

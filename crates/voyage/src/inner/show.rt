@@ -4,8 +4,8 @@ ghost use Rattle.bounded.specs.Laid.{Front};
 use crate::inner::{Order, Problem, files};
 use bounded::inner::{Ground, Unfit, memory};
 use chart::{Ocean, put_chart};
-use command::arguments::Fault;
-use command::sentences::{FileFault, put_fault, put_file_fault, put_refusal};
+use command::arguments::{Fault, fault_number};
+use command::sentences::{FileFault, file_number, put_fault, put_file_fault, put_refusal};
 use picture::{put_picture_head, put_picture_row, put_picture_tail};
 use std::io::Write;
 use std::rt::{Env, Files};
@@ -35,7 +35,7 @@ fn write<W: Write, F: FnOnce(&mut Page)>(to: &mut W, put: F) -> Result<(), FileF
 // One sentence that says what is wrong.
 pub(crate) fn tell<R: Env, T: Print>(rt: &R, told: &T, problem: Problem) {
     match problem {
-        Problem::Asked(fault) => print(told, |page| put_fault(page, fault)),
+        Problem::Asked(fault) => print(told, |page| put_fault(page, fault_number(fault))),
         Problem::Refused(refusal, place) => {
             let number = u32::from(refusal) as usize;
             print(told, |page| put_refusal(page, number, place))
@@ -43,10 +43,10 @@ pub(crate) fn tell<R: Env, T: Print>(rt: &R, told: &T, problem: Problem) {
         Problem::File(index, fault) => {
             let mut buffer: Buffer = room(0);
             let name = files::name(rt, index, &mut buffer);
-            print(told, |page| put_file_fault(page, name, fault))
+            print(told, |page| put_file_fault(page, name, file_number(fault)))
         }
         Problem::Output => print(told, |page| {
-            put_file_fault(page, b"standard output", FileFault::Unwritten)
+            put_file_fault(page, b"standard output", file_number(FileFault::Unwritten))
         }),
     };
 }
