@@ -17,7 +17,7 @@ pub fn weight_of(weights: &[u32], p: usize) -> u32
     weights[p]
 }
 
-// The sum of the weights of the patterns in the word; only those are visited.
+// The sum of the weights of the patterns in the word. The loop walks from one pattern of the word to the next, and counts no index.
 pub fn weight_sum(weights: &[u32], word: u64) -> u32
     requires { Bounded weights.now word }
     ensures { result ≡ weight_sum weights.now word }
@@ -194,21 +194,13 @@ impl<'o, 'i> Table<'o, 'i> {
         self.offsets.len() != 4 * self.count + 1
     }
 
-    // Whether no offset falls.
-    fn rising(&self) -> bool
-        requires { length self.now.offsets ≡ 4 * self.now.count + 1 }
-        ensures { result ≡ all_to (4 * self.now.count) (rises_at self.now.offsets) }
-    {
-        self.offsets.is_sorted()
-    }
-
     // Whether the offsets start at 0, never fall, and end at the ids' length.
     fn offsets_ok(&self) -> bool
         requires { length self.now.offsets ≡ 4 * self.now.count + 1 }
         ensures { result ≡ offsets_ok self.now }
     {
         self.offsets[0] == 0
-            && self.rising()
+            && self.offsets.is_sorted()
             && self.offsets[4 * self.count] as usize == self.ids.len()
     }
 

@@ -46,6 +46,7 @@ pub fn check_table(
     Ok(())
 }
 
+// Public calls name the three slices of a table one by one, as they always did: a `Table` would ask its caller to make one.
 // The list of a pattern and a direction: that part of the ids, or an empty part where the call is refused.
 pub fn list<'a>(
     count: usize,

@@ -4,7 +4,8 @@
 
 pub mod inner;
 
-// A pattern that is forbidden at a cell, where `keep` is 0, or the only one that is kept there.
+// A pattern that is forbidden at a cell, where `keep` is 0, or the only one that is kept there. Any number may be lent as `keep`, by Rust and by C:
+// a type of two values would ask more of callers.
 #[derive(Clone, Copy)]
 pub struct Forbid {
     pub cell: u32,
