@@ -5,6 +5,7 @@
 pub mod inner;
 
 // A pattern that is forbidden at a cell, where `keep` is 0, or the only one that is kept there.
+// `keep` is a number, since the call for C lends these as numbers, of which any but 0 keeps (`murghidossu_run`).
 #[derive(Clone, Copy)]
 pub struct Forbid {
     pub cell: u32,
