@@ -4,4 +4,4 @@ use Rattle.voyage.proofs.inner.take.Goals as goal
 -- the text is what the system left
 pub returns : goal.returns
 unfolding Taken
-returns g c = (_, c.step.ensures)
+returns g c = (c.front.result.now, c.step.ensures)

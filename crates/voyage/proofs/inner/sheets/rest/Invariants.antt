@@ -1,6 +1,6 @@
 use Rattle.scan.specs.Scanning.{Reached}
 use Rattle.voyage.proofs.inner.sheets.rest.Given as goal
 
--- the bytes after the first piece lead from its state to the last one's
+-- the bytes that were read lead from the first state to the one that is reached
 abbrev pub invariant-loop : goal.invariant-loop
-invariant-loop g l = Reached l.fn.state l.last.state
+invariant-loop g l = Reached l.fn.state l.reached
