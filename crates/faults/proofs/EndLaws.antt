@@ -2,6 +2,7 @@
 -- Assumes nothing.
 use mathlib.Core.Bool.{Bool, true, false, cond, ◌&&◌, false≢true}
 use mathlib.Core.List.{List}
+use mathlib.Core.Logic.{◌⊎◌, inl, inr}
 use mathlib.Core.Path.{◌≡◌, refl, sym, ap, subst, ◌∙◌}
 use Prim.Native.Nat.{ℕ, ◌+◌, ◌*◌, ◌/◌, ◌%◌, ◌≤◌, ◌<◌}
 use native.Mathlib.Omega.{arith}
@@ -9,7 +10,8 @@ use lib.Dec.{leb}
 use lib.ListN.{length, get_or}
 use borrow.Author.Tests.{lt-ltb, le-ltb, lt-leb, le-leb, eq-eqb, ne_eqb}
 use Rattle.refusals.specs.declared.Refusal.{Refusal}
-use Rattle.refusals.specs.Refusals.{first_of, Asked, refused, answer}
+use Rattle.refusals.specs.declared.Refusal.TheVariants.{BadSize, BadWrap, BadCount, BadWeights, BadLength, BadList, Disagree, BadCell, BadPattern, BadSheet, BadDirection}
+use Rattle.refusals.specs.Refusals.{number, first_of, Asked, refused, answer}
 use Rattle.adjacency.specs.Tables.{Table, table, list_of}
 use Rattle.adjacency.specs.Checks.{bad_list}
 use Rattle.adjacency.specs.Accepted.{Laid}
@@ -101,30 +103,43 @@ module _ (P : ℕ) (g : Grid) (ns : List ℕ) {i : ℕ} (e : i ≡ first_failing
   unfolding forbid_place
   forbid_none h = sym (rw (le-ltb K (length ns / 3) (omega arith)))
 
--- ---- by the number
+-- ---- by the refusal
 
-module _ (n : ℕ) (t : Table) (g : Grid) (ns : List ℕ) where
-  pub at-list : n ≡ 6 → list_place t ≡ place_at n t g ns
-  unfolding place_at
-  at-list e = sym (rw (eq-eqb n 6 e))
+module _ (r : Refusal) (t : Table) (g : Grid) (ns : List ℕ) where
+  pub at-list : r ≡ BadList → list_place t ≡ place_at (number r) t g ns
+  unfolding place_at number
+  at-list e = sym (ap (λ (x : Refusal). place_at (number x) t g ns) e)
 
-  module _ (no : n ≡ 6 → ⊥) where
-    pub at_pair : n ≡ 7 → pair_place t ≡ place_at n t g ns
-    unfolding place_at
-    at_pair e = sym (rw (ne_eqb n 6 no, eq-eqb n 7 e))
+  pub at_pair : r ≡ Disagree → pair_place t ≡ place_at (number r) t g ns
+  unfolding place_at number
+  at_pair e = sym (ap (λ (x : Refusal). place_at (number x) t g ns) e)
 
-    module _ (nor : n ≡ 7 → ⊥) where
-      pub at_low : n < 8 → at.Nowhere ≡ place_at n t g ns
-      unfolding place_at
-      at_low h = sym (rw (ne_eqb n 6 no, ne_eqb n 7 nor, lt-leb 8 n h))
+  pub at-forbid : (r ≡ BadCell) ⊎ (r ≡ BadPattern) → forbid_place t.count g ns ≡ place_at (number r) t g ns
+  unfolding place_at number
+  at-forbid (inl e) = sym (ap (λ (x : Refusal). place_at (number x) t g ns) e)
+  at-forbid (inr e) = sym (ap (λ (x : Refusal). place_at (number x) t g ns) e)
 
-      pub at_high : 8 ≤ n → 9 < n → at.Nowhere ≡ place_at n t g ns
-      unfolding place_at
-      at_high l h = sym (rw (ne_eqb n 6 no, ne_eqb n 7 nor, le-leb 8 n l, lt-leb n 9 h))
+-- the others have no place
+pub at_none : (r : Refusal) (t : Table) (g : Grid) (ns : List ℕ) → (r ≡ BadList → ⊥) → (r ≡ Disagree → ⊥) → (r ≡ BadCell → ⊥) → (r ≡ BadPattern → ⊥)
+    → at.Nowhere ≡ place_at (number r) t g ns
+unfolding place_at number
+at_none BadSize t g ns a b c d = refl
+at_none BadWrap t g ns a b c d = refl
+at_none BadCount t g ns a b c d = refl
+at_none BadWeights t g ns a b c d = refl
+at_none BadLength t g ns a b c d = refl
+at_none BadList t g ns a b c d = absurd (a refl)
+at_none Disagree t g ns a b c d = absurd (b refl)
+at_none BadCell t g ns a b c d = absurd (c refl)
+at_none BadPattern t g ns a b c d = absurd (d refl)
+at_none BadSheet t g ns a b c d = refl
+at_none BadDirection t g ns a b c d = refl
 
-      pub at-forbid : 8 ≤ n → n ≤ 9 → forbid_place t.count g ns ≡ place_at n t g ns
-      unfolding place_at
-      at-forbid l h = sym (rw (ne_eqb n 6 no, ne_eqb n 7 nor, le-leb 8 n l, le-leb n 9 h))
+-- and no more has a number that no refusal has
+pub at_unnamed : (n : ℕ) (t : Table) (g : Grid) (ns : List ℕ) → (n ≡ 0) ⊎ (11 < n) → at.Nowhere ≡ place_at n t g ns
+unfolding place_at
+at_unnamed n t g ns (inl e) = sym (ap (λ (k : ℕ). place_at k t g ns) e)
+at_unnamed n t g ns (inr h) = sym (rw (ne_eqb n 6 (λ e. omega (arith, e, h)), ne_eqb n 7 (λ e. omega (arith, e, h)), le-leb 8 n (omega arith), lt-leb n 9 (omega arith)))
 
 -- ---- a sheet
 
@@ -145,6 +160,15 @@ module _ (n : ℕ) (b : List ℕ) where
   told : {A : Type 0} → Asked A → Bool
   told (answer x) = true
   told (refused k) = false
+
+  -- a number that no refusal has
+  pub place-unnamed : (n ≡ 0) ⊎ (11 < n) → at.Nowhere ≡ place_in n b
+  unfolding place_in sheet_place
+  place-unnamed h = go (well_formed b && leb (length (sheet_in b).weights) 64)
+    where
+      go : (v : Bool) → at.Nowhere ≡ cond v (sheet_place n (sheet_in b)) at.Nowhere
+      go true = at_unnamed n (table_of (sheet_in b)) (sheet_in b).grid (sheet_in b).forbids h
+      go false = refl
 
   -- bytes that are no sheet
   pub place-unread : {a : Result Measures Refusal} {r : Refusal} → a ≡ Err r → sizes_told a ≡ sizes_asked b → at.Nowhere ≡ place_in n b

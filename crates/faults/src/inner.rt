@@ -1,5 +1,6 @@
 // Where a sheet is wrong that was refused, for who tells a person of it.
 ghost use Rattle.std.specs.Prelude.{true, ◌≡◌, ◌≤◌};
+ghost use Rattle.refusals.specs.Refusals.{number};
 ghost use Rattle.layout.specs.Reading.{count_in, well_formed, sheet_in};
 ghost use Rattle.sheet.specs.Called.{measured};
 ghost use Rattle.faults.specs.Places.{sheet_place, place_in};
@@ -7,6 +8,7 @@ ghost use Rattle.faults.specs.Places.{sheet_place, place_in};
 use adjacency::inner::Table;
 use grid::Grid;
 use layout::inner::filling::fill;
+use refusals::Refusal;
 use sheet::Measures;
 
 mod search;
@@ -27,9 +29,9 @@ pub enum Place {
 }
 
 // A sheet of up to 64 patterns is read into memory of its own, whatever is wrong with it.
-fn sheet_place(sheet: &[u8], m: Measures, number: u32) -> Place
+fn sheet_place(sheet: &[u8], m: Measures, refusal: Refusal) -> Place
     requires { (well_formed sheet.now ≡ true) × (count_in sheet.now ≤ 64) × (m ≡ measured (sheet_in sheet.now)) }
-    ensures { result ≡ sheet_place number (sheet_in sheet.now) }
+    ensures { result ≡ sheet_place (number refusal) (sheet_in sheet.now) }
 {
     let mut weights = [0u32; 64];
     let mut offsets = [0u32; 257];
@@ -49,20 +51,23 @@ fn sheet_place(sheet: &[u8], m: Measures, number: u32) -> Place
         height: m.height,
         mode: m.mode,
     };
-    search::place_at(number, &table, grid, &forbids[..numbers])
+    search::place_at(refusal, &table, grid, &forbids[..numbers])
 }
 
-// Where the sheet is wrong that was refused with this number.
+// Where the sheet is wrong that was refused with this number. It takes a number, not a refusal, since it answers every number (docs/CONTRACTS.md).
 pub fn place_in(sheet: &[u8], number: u32) -> Place
     ensures { result ≡ place_in number sheet.now }
 {
+    let Ok(refusal) = Refusal::try_from(number) else {
+        return Place::Nowhere;
+    };
     match sheet::sizes(sheet) {
         Err(_) => Place::Nowhere,
         Ok(m) => {
             if 64 < m.count {
                 return Place::Nowhere;
             }
-            sheet_place(sheet, m, number)
+            sheet_place(sheet, m, refusal)
         }
     }
 }

@@ -161,13 +161,7 @@ fn propagate_told<O: Print>(out: &O, head: &Head, slices: &Slices) {
 fn list_told<O: Print>(out: &O, head: &Head, slices: &Slices) {
     let Slices { offsets, ids, .. } = *slices;
     let list = adjacency::list(head.count, offsets, ids, head.pattern, head.direction);
-    let looked_up = adjacency::list_refusal(
-        head.count,
-        offsets,
-        ids,
-        head.pattern,
-        head.direction,
-    );
+    let looked_up = adjacency::list_refusal(head.count, offsets, ids, head.pattern, head.direction);
     print::line(out, "part", list);
     print::refused(out, looked_up.err());
 }

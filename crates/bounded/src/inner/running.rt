@@ -5,8 +5,8 @@ ghost use Rattle.grid.specs.Grid.{grid};
 ghost use Rattle.course.specs.Run.{given};
 ghost use Rattle.bounded.specs.Laid.{laid_told, outcome, ran_of, laid_of, laid_at, Runnable, Held, Front, Reads};
 
-use crate::inner::reading::read_in;
 use crate::inner::memory::{Counts, Floats, Marks, Pending};
+use crate::inner::reading::read_in;
 use crate::inner::{Laid, Unfit};
 use transfer::room;
 

@@ -1,5 +1,6 @@
 // The searches, each for the first of its kind. Follows docs/RULES.md, "Refusals" and "Programs".
 ghost use Rattle.std.specs.Prelude.{◌≡◌, ℕ, ◌+◌, ◌*◌, ◌/◌, ◌<◌, length};
+ghost use Rattle.refusals.specs.Refusals.{number};
 ghost use Rattle.adjacency.specs.Accepted.{Laid, Listed};
 ghost use Rattle.faults.specs.Places.{first_failing, list_fits, list_agrees, list_place, unanswered, pair_place, forbid_fits, forbid_place, place_at};
 
@@ -113,23 +114,16 @@ fn forbid_place(forbids: &[u32], count: usize, grid: Grid) -> Place
     Place::Nowhere
 }
 
-// ---- by the number of the refusal
+// ---- by the refusal
 
-pub(crate) fn place_at(number: u32, table: &Table, grid: Grid, forbids: &[u32]) -> Place
+pub(crate) fn place_at(refusal: Refusal, table: &Table, grid: Grid, forbids: &[u32]) -> Place
     requires { Laid table.now }
-    ensures { result ≡ place_at number table.now grid forbids.now }
+    ensures { result ≡ place_at (number refusal) table.now grid forbids.now }
 {
-    if number == 6 {
-        return list_place(table);
+    match refusal {
+        Refusal::BadList => list_place(table),
+        Refusal::Disagree => pair_place(table),
+        Refusal::BadCell | Refusal::BadPattern => forbid_place(forbids, table.count, grid),
+        _ => Place::Nowhere,
     }
-    if number == 7 {
-        return pair_place(table);
-    }
-    if number < 8 {
-        return Place::Nowhere;
-    }
-    if 9 < number {
-        return Place::Nowhere;
-    }
-    forbid_place(forbids, table.count, grid)
 }

@@ -1,27 +1,30 @@
 -- `faults::inner::place_in` meets its contract.
 -- Assumes nothing.
-use mathlib.Core.Path.{◌∙◌}
+use mathlib.Core.Path.{ap, ◌∙◌}
+use Prim.Native.Nat.{ℕ}
 use native.Mathlib.Omega.{arith}
+use Rattle.layout.specs.Reading.{sheet_in}
+use Rattle.faults.specs.Places.{sheet_place}
 use Rattle.layout.proofs.ShapeLaws.{formed}
 use Rattle.layout.proofs.ReadingLaws.{count-is}
 use Rattle.sheet.proofs.MeasureLaws.{known}
 use Rattle.bounded.proofs.ReadLaws.{sizes-some}
-use Rattle.faults.proofs.EndLaws.{place-unread, place-many, place-few}
+use Rattle.faults.proofs.EndLaws.{place-unnamed, place-unread, place-many, place-few}
 use Rattle.faults.proofs.inner.place_in.Goals as goal
 
 pub returns-then-m-gt64 : goal.returns-then-m-gt64
 returns-then-m-gt64 c =
     let a = c.args in
-    let m = c.in-Ok.m in
-    let (w, e) = sizes-some a.sheet.now m c.in-Ok.is c.sizes.ensures in
+    let m = c.in-Ok-sizes.m in
+    let (w, e) = sizes-some a.sheet.now m c.in-Ok-sizes.is c.sizes.ensures in
     let size = (known a.sheet.now (formed a.sheet.now w) m e).count_same in
     place-many a.number a.sheet.now w (omega (arith, c.if-m-gt64.true))
 
 pub sheet_place-requires : goal.sheet_place-requires
 sheet_place-requires c =
     let a = c.args in
-    let m = c.in-Ok.m in
-    let (w, e) = sizes-some a.sheet.now m c.in-Ok.is c.sizes.ensures in
+    let m = c.in-Ok-sizes.m in
+    let (w, e) = sizes-some a.sheet.now m c.in-Ok-sizes.is c.sizes.ensures in
     let size = (known a.sheet.now (formed a.sheet.now w) m e).count_same in
     (w, omega (arith, c.if-m-gt64.false, count-is a.sheet.now (formed a.sheet.now w)), e)
 
@@ -33,7 +36,10 @@ returns-in-Err c =
 pub returns-else-m-gt64 : goal.returns-else-m-gt64
 returns-else-m-gt64 c =
     let a = c.args in
-    let m = c.in-Ok.m in
-    let (w, e) = sizes-some a.sheet.now m c.in-Ok.is c.sizes.ensures in
+    let m = c.in-Ok-sizes.m in
+    let (w, e) = sizes-some a.sheet.now m c.in-Ok-sizes.is c.sizes.ensures in
     let size = (known a.sheet.now (formed a.sheet.now w) m e).count_same in
-    c.sheet_place.ensures ∙ place-few a.number a.sheet.now w (omega (arith, c.if-m-gt64.false))
+    c.sheet_place.ensures ∙ ap (λ (n : ℕ). sheet_place n (sheet_in a.sheet.now)) c.in-Ok.ensures ∙ place-few a.number a.sheet.now w (omega (arith, c.if-m-gt64.false))
+
+pub returns-in_default : goal.returns-in_default
+returns-in_default c = place-unnamed c.args.number c.args.sheet.now c.in_default.ensures

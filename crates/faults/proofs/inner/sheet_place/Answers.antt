@@ -4,6 +4,7 @@ use mathlib.Core.Path.{sym, ap, ◌∙◌}
 use Prim.Native.Nat.{◌+◌, ◌*◌, ◌≤◌}
 use native.Mathlib.Omega.{arith}
 use lib.ListN.{length}
+use Rattle.refusals.specs.Refusals.{number}
 use Rattle.layout.specs.Reading.{sheet_in}
 use Rattle.layout.proofs.ShapeLaws.{formed}
 use Rattle.layout.proofs.ReadingLaws.{roomy-own, count-is}
@@ -67,4 +68,4 @@ pub returns : goal.returns
 returns c =
     let P = parts (goal.at.returns c).After-struct_known-1 in
     c.place_at.ensures
-    ∙ place_read (sheet_in c.args.sheet.now) c.args.m c.requires.2 P.offsets_in P.ids_in c.args.number P.forbids_in
+    ∙ place_read (sheet_in c.args.sheet.now) c.args.m c.requires.2 P.offsets_in P.ids_in (number c.args.refusal) P.forbids_in

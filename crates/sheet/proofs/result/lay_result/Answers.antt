@@ -1,10 +1,13 @@
 -- `sheet::result::lay_result` meets its contract.
 -- Assumes nothing.
-use Prim.Native.Nat.{◌+◌, ◌*◌}
+use mathlib.Core.Path.{ap, ◌∙◌}
+use Prim.Native.Nat.{ℕ, ◌+◌, ◌*◌}
 use native.Mathlib.Omega.{arith}
 use lib.ListN.{length}
 use Rattle.collapse.specs.Endings.{end_number}
 use Rattle.collapse.proofs.EndingLaws.{end_number-most}
+use Rattle.records.specs.Numbers.{u16}
+use Rattle.records.specs.Laying.{pen, laid}
 use Rattle.records.proofs.NumberLaws.{length-u16}
 use Rattle.records.proofs.RecordLaws.{length-head_of}
 use Rattle.records.proofs.LayingLaws.{pen-length, pen-place}
@@ -32,4 +35,4 @@ lay_words-requires c =
 
 pub returns : goal.returns
 returns c =
-    result-laid (end_number c.args.stop.end) c.args.stop.used c.args.domains.now c.args.out.now c.requires.2 c.lay_head-place.ensures (rw c.from-end.ensures at c.lay_u16-place.ensures) c.lay_u16-place-2.ensures c.lay_words.ensures
+    result-laid (end_number c.args.stop.end) c.args.stop.used c.args.domains.now c.args.out.now c.requires.2 c.lay_head-place.ensures (c.lay_u16-place.ensures ∙ ap (λ (n : ℕ). laid (u16 n) (pen c.lay_head-place.new.out c.lay_head-place.result)) c.from-end.ensures) c.lay_u16-place-2.ensures c.lay_words.ensures

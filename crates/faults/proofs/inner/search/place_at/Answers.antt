@@ -1,32 +1,28 @@
--- `faults::inner::search::place_at` meets its contract: each number in turn.
+-- `faults::inner::search::place_at` meets its contract: by the refusal.
 -- Assumes nothing.
 use mathlib.Core.Path.{ap, ◌∙◌}
 use Rattle.adjacency.specs.Tables.{Table}
-use Rattle.faults.proofs.EndLaws.{at-list, at_pair, at_low, at_high, at-forbid}
+use Rattle.faults.proofs.EndLaws.{at-list, at_pair, at-forbid, at_none}
 use Rattle.faults.proofs.inner.search.place_at.Goals as goal
 
-pub returns-then-number-eq6 : goal.returns-then-number-eq6
-returns-then-number-eq6 c =
+pub returns-in-BadList : goal.returns-in-BadList
+returns-in-BadList c =
     let a = c.args in
-    c.list_place.ensures ∙ at-list a.number a.table.now a.grid a.forbids.now c.if-number-eq6.true
+    c.list_place.ensures ∙ at-list a.refusal a.table.now a.grid a.forbids.now c.in-BadList.is
 
-pub returns-then-number-eq7 : goal.returns-then-number-eq7
-returns-then-number-eq7 c =
+pub returns-in-Disagree : goal.returns-in-Disagree
+returns-in-Disagree c =
     let a = c.args in
-    c.pair_place.ensures ∙ at_pair a.number a.table.now a.grid a.forbids.now c.if-number-eq6.false c.if-number-eq7.true
+    c.pair_place.ensures ∙ at_pair a.refusal a.table.now a.grid a.forbids.now c.in-Disagree.is
 
-pub returns-then-number-lt8 : goal.returns-then-number-lt8
-returns-then-number-lt8 c =
-    let a = c.args in
-    at_low a.number a.table.now a.grid a.forbids.now c.if-number-eq6.false c.if-number-eq7.false c.if-number-lt8.true
-
-pub returns-then-number-gt9 : goal.returns-then-number-gt9
-returns-then-number-gt9 c =
-    let a = c.args in
-    at_high a.number a.table.now a.grid a.forbids.now c.if-number-eq6.false c.if-number-eq7.false c.if-number-lt8.false c.if-number-gt9.true
-
-pub returns : goal.returns
-returns c =
+pub returns-in-BadCell : goal.returns-in-BadCell
+returns-in-BadCell c =
     let count = ap (λ (t : Table). t.count) c.table.view_is in
     let a = c.args in
-    rw count at c.forbid_place.ensures ∙ at-forbid a.number a.table.now a.grid a.forbids.now c.if-number-eq6.false c.if-number-eq7.false c.if-number-lt8.false c.if-number-gt9.false
+    rw count at c.forbid_place.ensures ∙ at-forbid a.refusal a.table.now a.grid a.forbids.now c.in-BadCell.is
+
+pub returns-in_default : goal.returns-in_default
+returns-in_default c =
+    let a = c.args in
+    let other = c.in_default in
+    at_none a.refusal a.table.now a.grid a.forbids.now other.not-BadList other.not-Disagree other.not-BadCell other.not-BadPattern
