@@ -1,7 +1,7 @@
 // The arguments, one after the other: options, and files in their order.
 ghost use Rattle.std.specs.Prelude.{◌≡◌, position, is_none};
 ghost use Rattle.command.specs.Arguments as meaning;
-ghost use Rattle.command.specs.Arguments.{fault_number, kind_of, digit_more, number_in, empty_plan, with_fault, with_wait, with_seed, with_svg, with_file, with_word, stepped, fault_of};
+ghost use Rattle.command.specs.Arguments.{fault_number, same_text, kind_of, digit_more, number_in, empty_plan, with_fault, with_wait, with_seed, with_svg, with_file, with_word, stepped, fault_of};
 
 // What is wrong with what is asked, in the order of its sentences.
 #[derive(Clone, Copy)]
@@ -50,6 +50,13 @@ pub struct Plan {
     pub waits: Option<Wait>,
     // The first fault.
     pub fault: Option<Fault>,
+}
+
+// Whether two texts are the same.
+pub fn same(a: &[u8], b: &[u8]) -> bool
+    ensures { result ≡ same_text a.now b.now }
+{
+    a == b
 }
 
 // Whether a text starts as an option does.

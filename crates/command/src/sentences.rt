@@ -2,10 +2,8 @@
 // They take refusals and faults by number, since each answers every number (docs/CONTRACTS.md, `refusal_text`, `fault_text`, `file_text`).
 ghost use Rattle.std.specs.Prelude.{◌≡◌};
 ghost use Rattle.text.specs.Pages.{Puts};
-ghost use Rattle.command.specs.Arguments.{fault_number};
 ghost use Rattle.command.specs.Sentences.{refusal_text, fault_text, shown_byte, shown, file_number, file_text};
 
-use crate::arguments::{Fault, fault_number};
 use crate::places::put_place;
 use faults::inner::Place;
 use text::Page;
@@ -22,7 +20,7 @@ pub enum FileFault {
 }
 
 // The number of its sentence.
-fn file_number(fault: FileFault) -> usize
+pub fn file_number(fault: FileFault) -> usize
     ensures { result ≡ file_number fault }
 {
     fault as usize + 1
@@ -43,14 +41,14 @@ pub fn put_refusal(page: &mut Page, number: usize, place: Place)
     page.put_text(b".\n");
 }
 
-// What is wrong with what is asked.
-pub fn put_fault(page: &mut Page, fault: Fault)
-    ensures { Puts (fault_text (fault_number fault)) page.old page.new }
+// What is wrong with what is asked, by the fault's number.
+pub fn put_fault(page: &mut Page, fault: usize)
+    ensures { Puts (fault_text fault) page.old page.new }
 {
     page.put_text(b"ocean: ");
     page.put_line(
         b"\n--seed wants a number from 0 to 4294967295 after it\n--svg wants the name of a file after it\nthere is no such option, only these: ocean [--svg FILE] [--seed N [SHEET [RESULT]]], or: ocean [--svg FILE] SHEET NOISE WORDS [RESULT]\nthere are more files than SHEET NOISE WORDS RESULT, or with --seed than SHEET RESULT\na sheet wants its noise and its words, as in: ocean SHEET NOISE WORDS, or a seed, as in: ocean --seed 7 SHEET\nwith --seed there is no noise and no words, as in: ocean --seed 7 SHEET RESULT\nRESULT and the picture want names of their own, and one of them has the name of another file here\nthis program takes up to 4,096 cells times patterns, and the sheet has more\nthe name of a file is empty, or longer than 4,096 bytes",
-        fault_number(fault),
+        fault,
     );
     page.put_text(b".\n");
 }
@@ -73,16 +71,16 @@ fn put_name(page: &mut Page, name: &[u8])
     }
 }
 
-// What is wrong with the file of this name.
-pub fn put_file_fault(page: &mut Page, name: &[u8], fault: FileFault)
-    ensures { Puts (file_text name.now (file_number fault)) page.old page.new }
+// What is wrong with the file of this name, by the fault's number.
+pub fn put_file_fault(page: &mut Page, name: &[u8], fault: usize)
+    ensures { Puts (file_text name.now fault) page.old page.new }
 {
     page.put_text(b"ocean: ");
     put_name(page, name);
     page.put_text(b": ");
     page.put_line(
         b"\nthere is no such file, or no such folder on the way to it\nthis names a folder, not a file\nthis may not be opened\nthis cannot be opened, read or written\nthis ends within a word, and noise and words are files of 32-bit words\nthis could not be written to its end",
-        file_number(fault),
+        fault,
     );
     page.put_text(b".\n");
 }

@@ -11,6 +11,7 @@ use command::files::Names;
 use command::sentences::FileFault;
 use faults::inner::Place;
 use files::Loaded;
+use refusals::Refusal;
 use std::rt::{Env, Files};
 use transfer::{Buffer, front, room};
 
@@ -22,21 +23,15 @@ mod show;
 #[derive(Clone, Copy)]
 enum Problem {
     Asked(Fault),
-    Refused(u32, Place),
+    Refused(Refusal, Place),
     File(Option<usize>, FileFault),
     Output,
 }
 
 impl Problem {
-    // Why a sheet is not laid, and where it is wrong.
-    fn unfit(sheet: &[u8], unfit: Unfit) -> Problem {
-        match unfit {
-            Unfit::TooLarge => Problem::Asked(Fault::TooLarge),
-            Unfit::Refused(refusal) => {
-                let number = u32::from(refusal);
-                Problem::Refused(number, faults::inner::place_in(sheet, number))
-            }
-        }
+    // Why a sheet was refused, and where it is wrong.
+    fn refused(sheet: &[u8], refusal: Refusal) -> Problem {
+        Problem::Refused(refusal, faults::inner::place_in(sheet, u32::from(refusal)))
     }
 }
 
@@ -151,11 +146,13 @@ fn laid<R: Env + Files + Print>(
 ) -> Result<(), Problem>
     requires { Front sheet.now formed }
 {
-    let ground = bounded::inner::measure(sheet, formed)
-        .map_err(|unfit| Problem::unfit(sheet, unfit))?;
-    match order.seed {
-        Some(seed) => laid_from_seed(rt, order, seed, sheet, formed, ground),
-        None => laid_from_files(rt, order, sheet, formed, ground),
+    match bounded::inner::measure(sheet, formed) {
+        Err(Unfit::Refused(refusal)) => Err(Problem::refused(sheet, refusal)),
+        Err(Unfit::TooLarge) => Err(Problem::Asked(Fault::TooLarge)),
+        Ok(ground) => match order.seed {
+            Some(seed) => laid_from_seed(rt, order, seed, sheet, formed, ground),
+            None => laid_from_files(rt, order, sheet, formed, ground),
+        },
     }
 }
 

@@ -2,9 +2,10 @@
 ghost use Rattle.bounded.specs.Laid.{Front};
 
 use crate::inner::{Order, Problem, files};
-use bounded::inner::{Ground, memory};
+use bounded::inner::{Ground, Unfit, memory};
 use chart::{Ocean, put_chart};
-use command::sentences::{FileFault, put_fault, put_file_fault, put_refusal};
+use command::arguments::{Fault, fault_number};
+use command::sentences::{FileFault, file_number, put_fault, put_file_fault, put_refusal};
 use picture::{put_picture_head, put_picture_row, put_picture_tail};
 use std::io::Write;
 use std::rt::{Env, Files};
@@ -34,17 +35,18 @@ fn write<W: Write, F: FnOnce(&mut Page)>(to: &mut W, put: F) -> Result<(), FileF
 // One sentence that says what is wrong.
 pub(crate) fn tell<R: Env, T: Print>(rt: &R, told: &T, problem: Problem) {
     match problem {
-        Problem::Asked(fault) => print(told, |page| put_fault(page, fault)),
-        Problem::Refused(number, place) => {
-            print(told, |page| put_refusal(page, number as usize, place))
+        Problem::Asked(fault) => print(told, |page| put_fault(page, fault_number(fault))),
+        Problem::Refused(refusal, place) => {
+            let number = u32::from(refusal) as usize;
+            print(told, |page| put_refusal(page, number, place))
         }
         Problem::File(index, fault) => {
             let mut buffer: Buffer = room(0);
             let name = files::name(rt, index, &mut buffer);
-            print(told, |page| put_file_fault(page, name, fault))
+            print(told, |page| put_file_fault(page, name, file_number(fault)))
         }
         Problem::Output => print(told, |page| {
-            put_file_fault(page, b"standard output", FileFault::Unwritten)
+            put_file_fault(page, b"standard output", file_number(FileFault::Unwritten))
         }),
     };
 }
@@ -97,16 +99,20 @@ pub(crate) fn run<R: Env + Files + Print>(
 {
     let mut domains: memory::Domains = room(0);
     let mut bytes: memory::Record = room(0);
-    let run = bounded::inner::lay(sheet, formed, noise, words, &mut domains, &mut bytes)
-        .map_err(|unfit| Problem::unfit(sheet, unfit))?;
-    let ocean = Ocean {
-        width: ground.width,
-        height: ground.height,
-        mode: ground.mode,
-        named: order.names.sheet.is_none(),
-        end: u32::from(run.end) as usize,
-        words: run.used,
-        domains: front(&domains, ground.cells),
-    };
-    laid(rt, order, &ocean, front(&bytes, run.size))
+    match bounded::inner::lay(sheet, formed, noise, words, &mut domains, &mut bytes) {
+        Err(Unfit::Refused(refusal)) => Err(Problem::refused(sheet, refusal)),
+        Err(Unfit::TooLarge) => Err(Problem::Asked(Fault::TooLarge)),
+        Ok(run) => {
+            let ocean = Ocean {
+                width: ground.width,
+                height: ground.height,
+                mode: ground.mode,
+                named: order.names.sheet.is_none(),
+                end: u32::from(run.end) as usize,
+                words: run.used,
+                domains: front(&domains, ground.cells),
+            };
+            laid(rt, order, &ocean, front(&bytes, run.size))
+        }
+    }
 }

@@ -6,4 +6,4 @@ use Rattle.command.proofs.sentences.put_fault.Goals as goal
 
 pub returns : goal.returns
 unfolding fault_text faults
-returns c = c.put_text.ensures ⨾ (rw c.fault_number.ensures at c.put_line.ensures) ⨾ c.put_text-2.ensures
+returns c = c.put_text.ensures ⨾ c.put_line.ensures ⨾ c.put_text-2.ensures

@@ -6,4 +6,4 @@ use Rattle.command.proofs.sentences.put_file_fault.Goals as goal
 
 pub returns : goal.returns
 unfolding file_text file_faults
-returns c = c.put_text.ensures ⨾ c.put_name.ensures ⨾ c.put_text-2.ensures ⨾ (rw c.file_number.ensures at c.put_line.ensures) ⨾ c.put_text-3.ensures
+returns c = c.put_text.ensures ⨾ c.put_name.ensures ⨾ c.put_text-2.ensures ⨾ c.put_line.ensures ⨾ c.put_text-3.ensures
