@@ -53,6 +53,7 @@ fn sheet_place(sheet: &[u8], m: Measures, number: u32) -> Place
 }
 
 // Where the sheet is wrong that was refused with this number.
+// Any number is answered (docs/CONTRACTS.md): a Refusal in its place would ask more of callers.
 pub fn place_in(sheet: &[u8], number: u32) -> Place
     ensures { result ≡ place_in number sheet.now }
 {
