@@ -11,7 +11,7 @@ use lib.ListN.{length, get_or}
 use borrow.Author.Tests.{lt-ltb, le-ltb, lt-leb, le-leb, eq-eqb, ne_eqb}
 use Rattle.refusals.specs.declared.Refusal.{Refusal}
 use Rattle.refusals.specs.declared.Refusal.TheVariants.{BadSize, BadWrap, BadCount, BadWeights, BadLength, BadList, Disagree, BadCell, BadPattern, BadSheet, BadDirection}
-use Rattle.refusals.specs.Refusals.{number, first_of, Asked, refused, answer}
+use Rattle.refusals.specs.Refusals.{number, number_of, first_of, Asked, refused, answer}
 use Rattle.adjacency.specs.Tables.{Table, table, list_of}
 use Rattle.adjacency.specs.Checks.{bad_list}
 use Rattle.adjacency.specs.Accepted.{Laid}
@@ -21,9 +21,10 @@ use Rattle.layout.specs.Sheet.{Sheet}
 use Rattle.layout.specs.Tables.{table_of}
 use Rattle.layout.specs.Reading.{well_formed, sheet_in}
 use Rattle.sheet.specs.declared.Measures.{Measures}
-use Rattle.std.specs.Prelude.{Result, Err}
+use Rattle.std.specs.Prelude.{Result, Ok, Err, is_ok}
 use Rattle.sheet.specs.Called.{measured, sizes_told, sizes_asked}
 use Rattle.faults.specs.Places.{first_failing, list_fits, list_agrees, answers_in, list_place, unanswered, pair_place, judged, forbid_fits, forbid_place, place_at, sheet_place, place_in}
+use Rattle.refusals.proofs.RefusalLaws.{number-positive}
 use Rattle.sheet.proofs.CalledLaws.{sizes-told}
 use Rattle.faults.specs.declared.inner.Place.TheVariants as at
 
@@ -77,6 +78,13 @@ module _ (P : ℕ) (g : Grid) (ns : List ℕ) (i : ℕ) {n : ℕ} (e : n ≡ fir
   pub forbid-passes : n ≡ 0 → forbid_fits P g ns i ≡ true
   unfolding judged
   forbid-passes z = eq-eqb _ 0 (sym e ∙ z)
+
+-- it fits where its judgement accepts it
+pub forbid-judged : (P : ℕ) (g : Grid) (ns : List ℕ) (i : ℕ) (r : Result (Unit {0}) Refusal) → number_of r ≡ first_of (place_tests P g (get_or ns (3 * i) 0) (get_or ns (3 * i + 1) 0))
+    → is_ok r ≡ forbid_fits P g ns i
+unfolding number_of
+forbid-judged P g ns i (Ok u) e = sym (forbid-passes P g ns i e refl)
+forbid-judged P g ns i (Err r) e = sym (forbid-fails P g ns i e (number-positive r))
 
 module _ (P : ℕ) (g : Grid) (ns : List ℕ) {i : ℕ} (e : i ≡ first_failing (forbid_fits P g ns) 0 (length ns / 3)) where
   abbrev K : ℕ

@@ -21,6 +21,10 @@ unfoldable pub first_failing : (ℕ → Bool) → ℕ → ℕ → ℕ
 first_failing f k zero = k
 first_failing f k (suc n) = cond (f k) (first_failing f (suc k) n) k
 
+-- of each number below n, what a test that code makes tells is f
+abbrev pub Tells : (ℕ → Bool → Type 0) → (ℕ → Bool) → ℕ → Type 0
+Tells post f n = (k : ℕ) (r : Bool) → k < n → post k r → r ≡ f k
+
 -- what that is below n: no number before it fails
 pub record First (f : ℕ → Bool) (n k : ℕ) : Type 0 where
   pub inside : k < n

@@ -54,7 +54,8 @@ fn sheet_place(sheet: &[u8], m: Measures, refusal: Refusal) -> Place
     search::place_at(refusal, &table, grid, &forbids[..numbers])
 }
 
-// Where the sheet is wrong that was refused with this number. It takes a number, not a refusal, since it answers every number (docs/CONTRACTS.md).
+// Where the sheet is wrong that was refused with this number.
+// Any number is answered (docs/CONTRACTS.md): a Refusal in its place would ask more of callers.
 pub fn place_in(sheet: &[u8], number: u32) -> Place
     ensures { result ≡ place_in number sheet.now }
 {

@@ -10,6 +10,7 @@ use stream::inner::{CutOff, next_of};
 use transfer::{Buffer, room};
 
 // The next number, or none where the stream ends before it.
+// `recorded` has the same four lines: a library could promise nothing of them, since no contract says what a stream has.
 pub(crate) fn number<I: Read>(source: &mut I) -> Result<Option<u32>, CutOff> {
     let mut bytes = [0u8; 4];
     let got = transfer::read_full(source, &mut bytes);

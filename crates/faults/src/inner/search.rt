@@ -1,14 +1,27 @@
 // The searches, each for the first of its kind. Follows docs/RULES.md, "Refusals" and "Programs".
-ghost use Rattle.std.specs.Prelude.{◌≡◌, ℕ, ◌+◌, ◌*◌, ◌/◌, ◌<◌, length};
+ghost use Rattle.std.specs.Prelude.{Bool, ◌≡◌, ℕ, ◌+◌, ◌*◌, ◌/◌, ◌<◌, length};
 ghost use Rattle.refusals.specs.Refusals.{number};
 ghost use Rattle.adjacency.specs.Accepted.{Laid, Listed};
-ghost use Rattle.faults.specs.Places.{first_failing, list_fits, list_agrees, list_place, unanswered, pair_place, forbid_fits, forbid_place, place_at};
+ghost use Rattle.faults.specs.Places.{first_failing, Tells, list_fits, list_agrees, list_place, unanswered, pair_place, forbid_fits, forbid_place, place_at};
 
 use crate::inner::Place;
 use adjacency::inner::{Table, in_list, list_ok};
 use forbids::inner::judge;
 use grid::Grid;
 use refusals::Refusal;
+
+// The first number below the end that fails a test, the end where none does.
+fn first_failing<F: Fn(usize) -> bool>(end: usize, fits: F) -> usize
+    requires { (k : ℕ) → k < end → F.pre fits k }
+    ensures { (f : ℕ → Bool) → Tells (F.post fits) f end → result ≡ first_failing f 0 end }
+{
+    for k in 0..end {
+        if !fits(k) {
+            return k;
+        }
+    }
+    end
+}
 
 // ---- lists
 
@@ -17,12 +30,10 @@ fn bad_list(table: &Table) -> usize
     requires { Laid table.now }
     ensures { result ≡ first_failing (list_fits table.now) 0 (4 * table.now.count) }
 {
-    for k in 0..4 * table.count {
-        if !list_ok(table.count, table.list_of(k / 4, k % 4)) {
-            return k;
-        }
-    }
-    4 * table.count
+    first_failing(
+        4 * table.count,
+        |k| list_ok(table.count, table.list_of(k / 4, k % 4)),
+    )
 }
 
 // That list, by its pattern and its direction.
@@ -44,12 +55,7 @@ fn one_sided(table: &Table) -> usize
     requires { Listed table.now }
     ensures { result ≡ first_failing (list_agrees table.now) 0 (4 * table.now.count) }
 {
-    for k in 0..4 * table.count {
-        if !table.agrees_at(k / 4, k % 4) {
-            return k;
-        }
-    }
-    4 * table.count
+    first_failing(4 * table.count, |k| table.agrees_at(k / 4, k % 4))
 }
 
 // The first id of p's list for d whose own list for the opposite lacks p; 0 where there is none.
@@ -86,16 +92,19 @@ fn pair_place(table: &Table) -> Place
 
 // ---- forbids
 
+// Whether forbid number i is not refused.
+fn forbid_fits(forbids: &[u32], count: usize, grid: Grid, i: usize) -> bool
+    requires { i < length forbids.now / 3 }
+    ensures { result ≡ forbid_fits count grid forbids.now i }
+{
+    judge(forbids[3 * i], forbids[3 * i + 1], count, grid).is_ok()
+}
+
 // The first forbid that is refused, by its number; as many as there are where none is.
 fn bad_forbid(forbids: &[u32], count: usize, grid: Grid) -> usize
     ensures { result ≡ first_failing (forbid_fits count grid forbids.now) 0 (length forbids.now / 3) }
 {
-    for i in 0..forbids.len() / 3 {
-        if judge(forbids[3 * i], forbids[3 * i + 1], count, grid).is_err() {
-            return i;
-        }
-    }
-    forbids.len() / 3
+    first_failing(forbids.len() / 3, |i| forbid_fits(forbids, count, grid, i))
 }
 
 // That forbid, and what it names.
