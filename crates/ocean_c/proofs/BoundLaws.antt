@@ -58,7 +58,7 @@ near-inside g c d n zero q e =
     omega (arith, inside, S.few)
 near-inside g c d n (suc k) q e = absurd (answer-refused (Some n) (suc k) e)
 
-near-small : (g : Grid) (c d n : ℕ) → answer (Some n) ≡ neighbour_asked g c d → n < 4294967296
+pub near-small : (g : Grid) (c d n : ℕ) → answer (Some n) ≡ neighbour_asked g c d → n < 4294967296
 unfolding neighbour_asked checked
 near-small g c d n e = near-inside g c d n (first_of (neighbour_tests g c d)) refl e
 

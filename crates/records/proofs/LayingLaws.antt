@@ -1,12 +1,11 @@
 -- Laws of writing: parts one after the other are the whole, and a whole from the front is what stands over the rest.
 -- Assumes nothing.
-use mathlib.Core.List.{List, [], ◌∷◌, ◌++◌, append-nil, append_assoc}
+use mathlib.Core.List.{List, [], ◌∷◌, ◌++◌, append-nil}
 use mathlib.Core.Path.{◌≡◌, refl, sym, ap, ◌∙◌}
-use Prim.Native.Nat.{ℕ, suc, ◌+◌, ◌-◌, ◌≤◌}
+use Prim.Native.Nat.{ℕ, suc, ◌+◌, ◌≤◌}
 use native.Mathlib.Omega.{arith}
-use lib.ListN.{length, drop, take, set, length-append, drop_of_length-le}
-use lib.Seq.{sets, sets-eq, length-sets, drop-drop}
-use borrow.Rule.Slice.PartMut.{put_mid}
+use lib.ListN.{length, set, length-append, drop_of_length-le}
+use lib.Seq.{sets, sets-eq, length-sets}
 use Rattle.records.specs.Laying.{over, Pen, pen, laid}
 
 -- a list that is written in two parts
@@ -87,11 +86,3 @@ laid-room rest whole out old place at e = (
 -- what was written are the bytes that it is said to be
 pub laid_as : (p : Pen) {bytes new : List ℕ} {q : Pen} → q ≡ laid bytes p → bytes ≡ new → q ≡ laid new p
 laid_as p e f = e ∙ ap (λ (l : List ℕ). laid l p) f
-
--- a part that is copied to its place
-pub laid-part : (bytes part out : List ℕ) (at : ℕ) → at + length bytes ≤ length out → part ≡ bytes
-    → pen (put_mid at (at + length bytes - at) out part) (at + length bytes) ≡ laid bytes (pen out at)
-unfolding laid
-laid-part bytes part out at h e =
-    let size : at + length bytes - at ≡ length bytes = omega arith in
-    ap (λ (l : List ℕ). pen l (at + length bytes)) (rw (e, size, sets-eq bytes out at h, drop-drop (length bytes) at out, append_assoc (take at out) bytes (drop (at + length bytes) out)))

@@ -96,14 +96,16 @@ pub fn lay_head(kind: usize, size: usize, out: &mut [u8], at: usize) -> usize
     lay_u16(kind, out, place)
 }
 
-// Bytes as they are.
+// Bytes as they are, one by one: the library's copy would have the archive for C call `memmove` (include/murghidossu.h).
 pub fn lay_bytes(bytes: &[u8], out: &mut [u8], at: usize) -> usize
     requires { at + length bytes.now ≤ length out.old }
     ensures { pen out.new result ≡ laid bytes.now (pen out.old at) }
 {
-    let end = at + bytes.len();
-    out[at..end].copy_from_slice(bytes);
-    end
+    let mut place = at;
+    for byte in bytes {
+        place = lay_byte(usize::from(*byte), out, place);
+    }
+    place
 }
 
 // Numbers as two bytes each.
