@@ -84,7 +84,7 @@ module _ (P : ℕ) (ws : List ℕ) (w : ℕ) where
     choice-inside zero q e = choice-taken q (weight_sum ws w) (cc)
     choice-inside (suc k) q e = absurd (answer-refused (Some p) (suc k) e)
 
-    choice-small : answer (Some p) ≡ choice_asked P ws w word → p < 4294967296
+    pub choice-small : answer (Some p) ≡ choice_asked P ws w word → p < 4294967296
     unfolding choice_asked checked
     choice-small e = choice-inside (first_of (domain_tests P ws w)) refl e
 
