@@ -10,14 +10,14 @@ ghost use Rattle.course.specs.Run.{Given, given, sighted};
 ghost use Rattle.forbids.specs.Forbids.{asking};
 ghost use Rattle.course.specs.Called.{memory, outcome};
 ghost use Rattle.run.specs.Answers.{answer_told};
-ghost use Rattle.run.specs.Stages.{state_in, begun_as, stage_of, contradicted, standing, Standing, beginning, lay_at, concluding};
+ghost use Rattle.run.specs.Stages.{state_in, begun_as, begun_by, stage_of, contradicted, standing, Standing, beginning, lay_at, concluding};
 
 use crate::{Ending, Stop};
 use choice::inner::Sight;
 use refusals::Refusal;
 
 // Every refusal in order, of which `bad` is that of the forbids; or the run begins.
-pub fn begin(
+pub fn begin_judged(
     bad: Result<(), Refusal>,
     lent: usize,
     count: usize,
@@ -68,6 +68,69 @@ pub fn begin(
         floats,
         marks,
     );
+    Ok(())
+}
+
+// The same where a number tells the forbids' refusal, 0 for none. Any other number is answered as it is, whether a refusal has it or not.
+pub fn begin(
+    bad: u32,
+    lent: usize,
+    count: usize,
+    width: usize,
+    height: usize,
+    mode: usize,
+    weights: &[u32],
+    offsets: &[u32],
+    ids: &[u8],
+    noise: &[u32],
+    words: &[u32],
+    domains: &mut [u64],
+    counts: &mut [u8],
+    pending: &mut [u32],
+    floats: &mut [f32],
+    marks: &mut [u8],
+) -> Result<(), u32>
+    ensures { begun_by count result (memory domains.new counts.new pending.new floats.new marks.new)
+        ≡ beginning bad lent (given (table count offsets.now ids.now) weights.now (grid width height mode) noise.now)
+        (memory domains.old counts.old pending.old floats.old marks.old) }
+{
+    if bad != 0 {
+        crate::check::check(
+            count,
+            offsets,
+            ids,
+            weights,
+            width,
+            height,
+            mode,
+            noise,
+            lent,
+            domains.len(),
+            counts.len(),
+            pending.len(),
+            floats.len(),
+            marks.len(),
+        )?;
+        return Err(bad);
+    }
+    begin_judged(
+        Ok(()),
+        lent,
+        count,
+        width,
+        height,
+        mode,
+        weights,
+        offsets,
+        ids,
+        noise,
+        words,
+        domains,
+        counts,
+        pending,
+        floats,
+        marks,
+    )?;
     Ok(())
 }
 

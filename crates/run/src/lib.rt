@@ -50,7 +50,7 @@ pub fn run(
         mode,
     };
     let bad = forbids::inner::check_all(forbids, count, grid);
-    inner::begin(
+    inner::begin_judged(
         bad,
         forbids.len(),
         count,

@@ -10,7 +10,7 @@ ghost use Rattle.run.specs.Answers.{answer_told};
 ghost use Rattle.run.specs.Stages.{state_in, stage_of, standing, Standing, lay_all};
 
 use crate::Stop;
-use crate::inner::{begin, conclude, contradict, lay_one};
+use crate::inner::{begin_judged, conclude, contradict, lay_one};
 use grid::Grid;
 use refusals::Refusal;
 
@@ -95,7 +95,7 @@ pub fn run_numbers(
     };
     let bad = forbids::inner::judge_all(forbids, count, grid);
     let lent = forbids::inner::records_in(forbids);
-    begin(
+    begin_judged(
         bad, lent, count, width, height, mode, weights, offsets, ids, noise, words, domains,
         counts, pending, floats, marks,
     )?;

@@ -12,7 +12,7 @@ use Rattle.run.proofs.StandingLaws.{room_same}
 use Rattle.run.proofs.StageLaws.{refused_called}
 use Rattle.run.proofs.WalkLaws.{begun_stage, at_first, at_next, at-record, at_last, at-stop, run_is}
 use Rattle.run.proofs.run.Goals as goal
-use Rattle.run.proofs.run.Goals.{Start, After-begin, After-lay_one}
+use Rattle.run.proofs.run.Goals.{Start, After-begin_judged, After-lay_one}
 
 -- what the call is given, and the lent slices at entry
 abbrev input : Start → Given
@@ -22,28 +22,28 @@ abbrev entry : Start → Memory
 entry s = memory s.args.domains.now s.args.counts.now s.args.pending.now s.args.floats.now s.args.marks.now
 
 -- what the beginning comes to, by the refusals of the forbids
-judged : (c : After-begin) → let s = (goal.at.After-begin c).Start in
+judged : (c : After-begin_judged) → let s = (goal.at.After-begin_judged c).Start in
     beginning (number_of c.check_all-bad.result) (length c.args.forbids.now) (input s) (entry s) ≡ begun_stage (input s) c.args.forbids.now (entry s)
 judged c =
-    let s = (goal.at.After-begin c).Start in
+    let s = (goal.at.After-begin_judged c).Start in
     ap (λ (n : ℕ). beginning n (length c.args.forbids.now) (input s) (entry s)) (c.check_all-bad.ensures c.args.offsets.now c.args.ids.now)
 
-pub returns-in_err-begin : goal.returns-in_err-begin
-returns-in_err-begin c =
-    let s = (goal.at.returns-in_err-begin c).Start in
-    let l = c.begin.new in
+pub returns-in_err-begin_judged : goal.returns-in_err-begin_judged
+returns-in_err-begin_judged c =
+    let s = (goal.at.returns-in_err-begin_judged c).Start in
+    let l = c.begin_judged.new in
     let (_, e, same) = err_from_is_err_and c.from_residual.result c.from_residual.ensures.1 in
     rw (e, same)
     (refused_called (length c.args.forbids.now) (input s) c.args.forbids.now c.args.words.now (entry s) (memory l.domains l.counts l.pending l.floats l.marks) _
-    (c.in_err-begin.ensures ∙ judged (goal.at.returns-in_err-begin c).After-begin))
+    (c.in_err-begin_judged.ensures ∙ judged (goal.at.returns-in_err-begin_judged c).After-begin_judged))
 
 pub loop-i-init : goal.loop-i-init
 loop-i-init c =
     let s = (goal.at.loop-i-init c).Start in
-    let b = c.begin in
+    let b = c.begin_judged in
     at_first (input s) c.args.forbids.now (entry s) _
     (room_same (entry s) (b.auto.domains, (b.auto.counts, (b.auto.pending, (b.auto.floats, (b.auto.marks, tt {0}))))))
-    (c.in_ok-begin.ensures ∙ judged (goal.at.loop-i-init c).After-begin)
+    (c.in_ok-begin_judged.ensures ∙ judged (goal.at.loop-i-init c).After-begin_judged)
 
 pub lay_one-requires : goal.lay_one-requires
 lay_one-requires c =
