@@ -7,7 +7,7 @@ use Rattle.adjacency.specs.Tables.{table}
 use Rattle.grid.specs.Grid.{grid}
 use Rattle.course.specs.Run.{Given, given}
 use Rattle.course.specs.Called.{Memory, memory, room_of}
-use Rattle.run.specs.Stages.{contradicted, standing, state_in, beginning}
+use Rattle.run.specs.Stages.{contradicted, standing, state_in, stage_of, beginning}
 use Rattle.run.proofs.StandingLaws.{room_same}
 use Rattle.run.proofs.StageLaws.{refused_called}
 use Rattle.run.proofs.WalkLaws.{begun_stage, at_first, at_next, at-record, at_last, at-stop, run_is}
@@ -61,6 +61,7 @@ laid-room c =
     room_same (memory l.domains l.counts l.pending l.floats l.marks) (b.auto.domains, (b.auto.counts, (b.auto.pending, (b.auto.floats, (b.auto.marks, tt {0}))))) ∙ l.invariant.room
 
 pub returns-then-lay_one : goal.returns-then-lay_one
+unfolding stage_of
 returns-then-lay_one c =
     let s = (goal.at.returns-then-lay_one c).Start in
     let fs = c.args.forbids.now in
@@ -68,7 +69,7 @@ returns-then-lay_one c =
     run_is (input s) fs (entry s) c.args.words.now contradicted (memory l.domains l.counts l.pending l.floats l.marks) _
     (laid-room (goal.at.returns-then-lay_one c).After-lay_one)
     (at-stop (input s) fs (entry s) _ _ c.loop-i.invariant c.loop-i-test.true _ (memory l.domains l.counts l.pending l.floats l.marks) c.lay_one.ensures c.if-lay_one.true)
-    (c.contradict.ensures (input s) c.args.words.now)
+    c.conclude.ensures
 
 pub loop-i-preserved : goal.loop-i-preserved
 loop-i-preserved c =
@@ -77,13 +78,14 @@ loop-i-preserved c =
     at_next (input s) c.args.forbids.now (entry s) _ _ c.loop-i.invariant c.loop-i-test.true _ (memory l.domains l.counts l.pending l.floats l.marks) c.lay_one.ensures c.if-lay_one.false
     (laid-room (goal.at.loop-i-preserved c).After-lay_one)
 
-pub conclude-requires : goal.conclude-requires
-conclude-requires c = c.loop-i.invariant.standing
+pub conclude-requires-2 : goal.conclude-requires-2
+conclude-requires-2 c = λ _. c.loop-i.invariant.standing
 
 pub returns : goal.returns
+unfolding stage_of
 returns c =
     let s = (goal.at.returns c).Start in
     let l = c.loop-i in
     let m = memory l.domains l.counts l.pending l.floats l.marks in
     run_is (input s) c.args.forbids.now (entry s) c.args.words.now (standing (state_in c.args.count m)) m _ l.invariant.room
-    (at_last (input s) c.args.forbids.now (entry s) _ _ l.invariant c.loop-i-test.false) c.conclude.ensures
+    (at_last (input s) c.args.forbids.now (entry s) _ _ l.invariant c.loop-i-test.false) c.conclude-2.ensures

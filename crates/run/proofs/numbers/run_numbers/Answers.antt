@@ -1,8 +1,7 @@
 -- `run::numbers::run_numbers` meets its contract: the stages, one after the other, come to what the call comes to.
 -- Assumes nothing.
-use mathlib.Core.Bool.{Bool}
 use mathlib.Core.List.{List}
-use mathlib.Core.Path.{◌≡◌, sym, ap, ◌∙◌}
+use mathlib.Core.Path.{◌≡◌, ◌∙◌}
 use Prim.Native.Nat.{ℕ}
 use Rattle.std.specs.Prelude.{Ok}
 use Rattle.std.proofs.lemmas.Result.{err_from_is_err_and}
@@ -12,12 +11,12 @@ use Rattle.grid.specs.Grid.{grid, cells}
 use Rattle.course.specs.Run.{Given, given}
 use Rattle.course.specs.Called.{Memory, memory, room_of}
 use Rattle.forbids.specs.Forbids.{Placed, forbid_tests, forbids_of, records_in}
-use Rattle.run.specs.Stages.{Standing, begun_as, stage_of, beginning, concluding}
+use Rattle.run.specs.Stages.{Standing, begun_as, beginning}
 use Rattle.refusals.proofs.RefusalLaws.{number_of-accepted}
 use Rattle.run.proofs.StandingLaws.{room_same}
 use Rattle.run.proofs.StageLaws.{begun-placed, begun-standing, laid-standing, refused_called, stages_called}
 use Rattle.run.proofs.numbers.run_numbers.Goals as goal
-use Rattle.run.proofs.numbers.run_numbers.Goals.{Start, After-begin_judged, In_ok-begin_judged, After-lay_numbers}
+use Rattle.run.proofs.numbers.run_numbers.Goals.{Start, After-begin_judged, In_ok-begin_judged, After-lay_numbers-empty}
 
 -- what the call is given, its forbids and how many they are, and the lent slices at entry
 abbrev input : Start → Given
@@ -49,11 +48,11 @@ began : (c : In_ok-begin_judged) → begun_as c.args.count (Ok tt) (begun (goal.
 began c = c.in_ok-begin_judged.ensures ∙ counted (goal.at.In_ok-begin_judged c).After-begin_judged
 
 -- the lent slices after the forbids
-abbrev laid : After-lay_numbers → Memory
-laid l = let k = l.lay_numbers.new in memory k.domains k.counts k.pending k.floats k.marks
+abbrev laid : After-lay_numbers-empty → Memory
+laid l = let k = l.lay_numbers-empty.new in memory k.domains k.counts k.pending k.floats k.marks
 
-laid-room : (l : After-lay_numbers) → room_of (laid l) ≡ room_of (begun (goal.at.After-lay_numbers l).After-begin_judged)
-laid-room l = room_same (begun (goal.at.After-lay_numbers l).After-begin_judged) (l.lay_numbers.auto.domains, (l.lay_numbers.auto.counts, (l.lay_numbers.auto.pending, (l.lay_numbers.auto.floats, (l.lay_numbers.auto.marks, tt {0})))))
+laid-room : (l : After-lay_numbers-empty) → room_of (laid l) ≡ room_of (begun (goal.at.After-lay_numbers-empty l).After-begin_judged)
+laid-room l = room_same (begun (goal.at.After-lay_numbers-empty l).After-begin_judged) (l.lay_numbers-empty.auto.domains, (l.lay_numbers-empty.auto.counts, (l.lay_numbers-empty.auto.pending, (l.lay_numbers-empty.auto.floats, (l.lay_numbers-empty.auto.marks, tt {0})))))
 
 pub returns-in_err-begin_judged : goal.returns-in_err-begin_judged
 returns-in_err-begin_judged c =
@@ -73,35 +72,22 @@ ready c =
       begun-placed (input s) (records_in (numbers s)) (forbids_of (numbers s)) (entry s) (Ok tt) (begun after) (began c) number_of-accepted,
     )
 
-pub lay_numbers-requires : goal.lay_numbers-requires
-lay_numbers-requires c = ready (goal.at.lay_numbers-requires c).In_ok-begin_judged
-
-pub returns-then-lay_numbers : goal.returns-then-lay_numbers
-unfolding stage_of
-returns-then-lay_numbers c =
-    let s = (goal.at.returns-then-lay_numbers c).Start in
-    let l = (goal.at.returns-then-lay_numbers c).After-lay_numbers in
-    c.contradict.ensures (input s) c.args.words.now
-    ∙ ap (λ (b : Bool). concluding (input s) c.args.words.now (stage_of c.args.count b (laid l)) (laid l)) (sym c.if-lay_numbers.true)
-    ∙ stages_called (records_in (numbers s)) (input s) (forbids_of (numbers s)) c.args.words.now (entry s) (begun (goal.at.returns-then-lay_numbers c).After-begin_judged)
-    c.lay_numbers.result (laid l) (began (goal.at.returns-then-lay_numbers c).In_ok-begin_judged) c.lay_numbers.ensures
-    (laid-room l ∙ begun-room (goal.at.returns-then-lay_numbers c).After-begin_judged)
+pub lay_numbers-empty-requires : goal.lay_numbers-empty-requires
+lay_numbers-empty-requires c = ready (goal.at.lay_numbers-empty-requires c).In_ok-begin_judged
 
 pub conclude-requires : goal.conclude-requires
 conclude-requires c =
     let s = (goal.at.conclude-requires c).Start in
-    let l = (goal.at.conclude-requires c).After-lay_numbers in
+    let l = (goal.at.conclude-requires c).After-lay_numbers-empty in
     let (stands, placed) = ready (goal.at.conclude-requires c).In_ok-begin_judged in
     laid-standing (input s) (forbids_of (numbers s)) (begun (goal.at.conclude-requires c).After-begin_judged) stands
-    c.lay_numbers.result (laid l) c.lay_numbers.ensures placed (laid-room l) c.if-lay_numbers.false
+    c.lay_numbers-empty.result (laid l) c.lay_numbers-empty.ensures placed (laid-room l)
 
 pub returns : goal.returns
-unfolding stage_of
 returns c =
     let s = (goal.at.returns c).Start in
-    let l = (goal.at.returns c).After-lay_numbers in
+    let l = (goal.at.returns c).After-lay_numbers-empty in
     c.conclude.ensures
-    ∙ ap (λ (b : Bool). concluding (input s) c.args.words.now (stage_of c.args.count b (laid l)) (laid l)) (sym c.if-lay_numbers.false)
     ∙ stages_called (records_in (numbers s)) (input s) (forbids_of (numbers s)) c.args.words.now (entry s) (begun (goal.at.returns c).After-begin_judged)
-    c.lay_numbers.result (laid l) (began (goal.at.returns c).In_ok-begin_judged) c.lay_numbers.ensures
+    c.lay_numbers-empty.result (laid l) (began (goal.at.returns c).In_ok-begin_judged) c.lay_numbers-empty.ensures
     (laid-room l ∙ begun-room (goal.at.returns c).After-begin_judged)
