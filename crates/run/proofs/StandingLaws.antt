@@ -10,7 +10,7 @@ use lib.Dec.{eqb}
 use lib.ListN.{length, take, drop, replicate}
 use borrow.Author.Tests.{eq-eqb, ne_eqb}
 use Rattle.order.specs.Numbers.{Numbers}
-use Rattle.std.specs.Prelude.{Result, Ok, Err}
+use Rattle.std.specs.Prelude.{Ok, Err}
 use Rattle.refusals.specs.declared.Refusal.{Refusal}
 use Rattle.refusals.specs.Refusals.{first_of, answer, number, number_of}
 use Rattle.grid.specs.Grid.{cells}
@@ -30,7 +30,7 @@ use Rattle.course.specs.Called.{Memory, memory, Room, room, room_of, base_tests,
 use Rattle.collapse.specs.Steps.{Opened, idle, ended_as}
 use Rattle.forbids.specs.Forbids.{forbid_tests}
 use Rattle.run.specs.Answers.{answer_told}
-use Rattle.run.specs.Stages.{contradicted, standing, state_in, begun_as, stage_of, refused_at, Standing, begin_at, first_bad, beginning, lay_at, concluding}
+use Rattle.run.specs.Stages.{contradicted, standing, state_in, stage_of, refused_at, Standing, begin_at, first_bad, beginning, lay_at, concluding}
 use Rattle.refusals.proofs.RefusalLaws.{number-positive}
 use Rattle.consistency.proofs.Settled.{Settled}
 use Rattle.propagation.proofs.LentLaws.{safe-beside}
@@ -51,43 +51,40 @@ pub granted-opened : {lent : ℕ} {i : Given} {m : Memory} → Granted lent i []
     → Opened i.table.count (cells i.grid) m.domains m.counts m.floats m.marks
 granted-opened {m = m} G = record { some = omega (arith, mul-le-mul G.sized.tall G.sized.wide); pending = m.pending; measured = G.memory }
 
-module _ (bad : Result (Unit {0}) Refusal) (lent : ℕ) (i : Given) (m : Memory) where
+module _ (bad lent : ℕ) (i : Given) (m : Memory) where
   -- the number of the first refusal before the forbids'
   abbrev base : ℕ
   base = first_of (base_tests i lent (room_of m))
 
   -- a refusal leaves all as it was
-  refused-at : (r : Refusal) → begun_as i.table.count (Err r) m ≡ begin_at (number r) i m
-  unfolding begun_as begin_at
-  refused-at r = go (number r) (number-positive r)
-    where
-      go : (k : ℕ) → (k ≡ 0 → ⊥) → refused_at k m ≡ begin_at k i m
-      go zero z = absurd (z refl)
-      go (suc k) z = refl
+  refused-at : (k : ℕ) → (k ≡ 0 → ⊥) → refused_at k m ≡ begin_at k i m
+  unfolding begin_at
+  refused-at zero z = absurd (z refl)
+  refused-at (suc k) z = refl
 
   -- one before the forbids' is the first
-  pub begin_refused : (r : Refusal) → number_of (Err r) ≡ base → begun_as i.table.count (Err r) m ≡ beginning (number_of bad) lent i m
+  pub begin_refused : (r : Refusal) → number_of (Err r) ≡ base → refused_at (number r) m ≡ beginning bad lent i m
   unfolding beginning first_bad number_of
   begin_refused r e =
-      refused-at r
-      ∙ ap (λ (k : ℕ). begin_at k i m) (e ∙ sym (ap (λ (b : Bool). cond b (number_of bad) base) (ne_eqb base 0 (λ y. number-positive r (e ∙ y)))))
+      refused-at (number r) (number-positive r)
+      ∙ ap (λ (k : ℕ). begin_at k i m) (e ∙ sym (ap (λ (b : Bool). cond b bad base) (ne_eqb base 0 (λ y. number-positive r (e ∙ y)))))
 
   module _ (z : base ≡ 0) where
     -- nothing before the forbids is refused
-    first-bad : first_bad (number_of bad) lent i m ≡ number_of bad
+    first-bad : first_bad bad lent i m ≡ bad
     unfolding first_bad
-    first-bad = ap (λ (b : Bool). cond b (number_of bad) base) (eq-eqb base 0 z)
+    first-bad = ap (λ (b : Bool). cond b bad base) (eq-eqb base 0 z)
 
-    -- otherwise the forbids'
-    pub begin_bad : (r : Refusal) → bad ≡ Err r → begun_as i.table.count (Err r) m ≡ beginning (number_of bad) lent i m
-    unfolding beginning number_of
-    begin_bad r y = refused-at r ∙ ap (λ (k : ℕ). begin_at k i m) (sym (first-bad ∙ ap number_of y))
+    -- otherwise the forbids', whatever its number
+    pub begin_bad : (bad ≡ 0 → ⊥) → refused_at bad m ≡ beginning bad lent i m
+    unfolding beginning
+    begin_bad y = refused-at bad y ∙ ap (λ (k : ℕ). begin_at k i m) (sym first-bad)
 
     -- without any the run begins
-    pub begin_standing : bad ≡ Ok tt → (m' : Memory) → state m'.counts m'.domains [] false (beside_in (length m'.domains) m'.floats m'.marks) ≡ begun i
-        → begun_as i.table.count (Ok tt) m' ≡ beginning (number_of bad) lent i m
-    unfolding beginning begin_at begun_as pending_of number_of
-    begin_standing y m' s = ap standing s ∙ ap (λ (k : ℕ). begin_at k i m) (sym (first-bad ∙ ap number_of y))
+    pub begin_standing : bad ≡ 0 → (m' : Memory) → state m'.counts m'.domains [] false (beside_in (length m'.domains) m'.floats m'.marks) ≡ begun i
+        → standing (state_in i.table.count m') ≡ beginning bad lent i m
+    unfolding beginning begin_at pending_of
+    begin_standing y m' s = ap standing s ∙ ap (λ (k : ℕ). begin_at k i m) (sym (first-bad ∙ y))
 
 -- ---- while the run goes on
 

@@ -28,6 +28,11 @@ unfolding number
 begun_as P (Ok u) m = standing (state_in P m)
 begun_as P (Err r) m = refused_at (number r) m
 
+-- the same where a number tells the refusal
+unfoldable pub begun_by : ℕ → Result (Unit {0}) ℕ → Memory → Stage
+begun_by P (Ok u) m = standing (state_in P m)
+begun_by P (Err n) m = refused_at n m
+
 -- the stage after a forbid or some, by whether one emptied a cell
 unfoldable pub stage_of : ℕ → Bool → Memory → Stage
 stage_of P empty m = cond empty contradicted (standing (state_in P m))

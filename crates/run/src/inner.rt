@@ -1,23 +1,23 @@
 // The stages of a call, over plain numbers: refused or begun, a forbid laid, concluded. Whoever holds the forbids goes through them in order.
 // Follows docs/RULES.md, "Run" and "Refusals". A refusal ends the call; after a contradiction nothing is left but to write it.
 // Each is lent every slice of the run, read or not, so that whoever holds the forbids lends the same ones each time.
-ghost use Rattle.std.specs.Prelude.{List, ◌≡◌, ℕ, ◌<◌, length};
+ghost use Rattle.std.specs.Prelude.{◌≡◌, ◌<◌, false, length};
 ghost use Rattle.refusals.specs.Refusals.{number_of};
 ghost use Rattle.adjacency.specs.Tables.{table};
 ghost use Rattle.grid.specs.Grid.{grid};
 ghost use Rattle.choice.specs.Observer.{sight_of};
-ghost use Rattle.course.specs.Run.{Given, given, sighted};
+ghost use Rattle.course.specs.Run.{given, sighted};
 ghost use Rattle.forbids.specs.Forbids.{asking};
 ghost use Rattle.course.specs.Called.{memory, outcome};
 ghost use Rattle.run.specs.Answers.{answer_told};
-ghost use Rattle.run.specs.Stages.{state_in, begun_as, stage_of, contradicted, standing, Standing, beginning, lay_at, concluding};
+ghost use Rattle.run.specs.Stages.{state_in, begun_as, begun_by, stage_of, Standing, beginning, lay_at, concluding};
 
 use crate::{Ending, Stop};
 use choice::inner::Sight;
 use refusals::Refusal;
 
 // Every refusal in order, of which `bad` is that of the forbids; or the run begins.
-pub fn begin(
+pub fn begin_judged(
     bad: Result<(), Refusal>,
     lent: usize,
     count: usize,
@@ -68,6 +68,69 @@ pub fn begin(
         floats,
         marks,
     );
+    Ok(())
+}
+
+// The same where a number tells the forbids' refusal, 0 for none. Any other number is answered as it is, whether a refusal has it or not.
+pub fn begin(
+    bad: u32,
+    lent: usize,
+    count: usize,
+    width: usize,
+    height: usize,
+    mode: usize,
+    weights: &[u32],
+    offsets: &[u32],
+    ids: &[u8],
+    noise: &[u32],
+    words: &[u32],
+    domains: &mut [u64],
+    counts: &mut [u8],
+    pending: &mut [u32],
+    floats: &mut [f32],
+    marks: &mut [u8],
+) -> Result<(), u32>
+    ensures { begun_by count result (memory domains.new counts.new pending.new floats.new marks.new)
+        ≡ beginning bad lent (given (table count offsets.now ids.now) weights.now (grid width height mode) noise.now)
+        (memory domains.old counts.old pending.old floats.old marks.old) }
+{
+    if bad != 0 {
+        crate::check::check(
+            count,
+            offsets,
+            ids,
+            weights,
+            width,
+            height,
+            mode,
+            noise,
+            lent,
+            domains.len(),
+            counts.len(),
+            pending.len(),
+            floats.len(),
+            marks.len(),
+        )?;
+        return Err(bad);
+    }
+    begin_judged(
+        Ok(()),
+        lent,
+        count,
+        width,
+        height,
+        mode,
+        weights,
+        offsets,
+        ids,
+        noise,
+        words,
+        domains,
+        counts,
+        pending,
+        floats,
+        marks,
+    )?;
     Ok(())
 }
 
@@ -156,26 +219,9 @@ pub fn sight(
     )
 }
 
-// What comes after a forbid that emptied a cell: the answer, and all memory zero.
-pub(crate) fn contradict(
-    domains: &mut [u64],
-    counts: &mut [u8],
-    pending: &mut [u32],
-    floats: &mut [f32],
-    marks: &mut [u8],
-) -> Stop
-    ensures { (i : Given) (words : List ℕ) → outcome (answer_told (Ok result)) (memory domains.new counts.new pending.new floats.new marks.new)
-        ≡ concluding i words contradicted (memory domains.old counts.old pending.old floats.old marks.old) }
-{
-    collapse::inner::finish(true, domains, counts, pending, floats, marks);
-    Stop {
-        end: Ending::Contradiction,
-        used: 0,
-    }
-}
-
-// What comes after the forbids otherwise: the turns, the answer, and the work memory zero.
+// What comes after the forbids: all memory zero where one of them emptied a cell, otherwise the turns, the answer, and the work memory zero.
 pub(crate) fn conclude(
+    empty: bool,
     count: usize,
     width: usize,
     height: usize,
@@ -191,12 +237,19 @@ pub(crate) fn conclude(
     floats: &mut [f32],
     marks: &mut [u8],
 ) -> Stop
-    requires { Standing (given (table count offsets.now ids.now) weights.now (grid width height mode) noise.now) (memory domains.old counts.old pending.old floats.old marks.old) }
+    requires { empty ≡ false → Standing (given (table count offsets.now ids.now) weights.now (grid width height mode) noise.now) (memory domains.old counts.old pending.old floats.old marks.old) }
     ensures { outcome (answer_told (Ok result)) (memory domains.new counts.new pending.new floats.new marks.new)
         ≡ concluding (given (table count offsets.now ids.now) weights.now (grid width height mode) noise.now) words.now
-        (standing (state_in count (memory domains.old counts.old pending.old floats.old marks.old)))
+        (stage_of count empty (memory domains.old counts.old pending.old floats.old marks.old))
         (memory domains.old counts.old pending.old floats.old marks.old) }
 {
+    if empty {
+        collapse::inner::finish(true, domains, counts, pending, floats, marks);
+        return Stop {
+            end: Ending::Contradiction,
+            used: 0,
+        };
+    }
     let stop = collapse::inner::collapse(
         count,
         offsets,

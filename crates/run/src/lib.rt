@@ -50,7 +50,7 @@ pub fn run(
         mode,
     };
     let bad = forbids::inner::check_all(forbids, count, grid);
-    inner::begin(
+    inner::begin_judged(
         bad,
         forbids.len(),
         count,
@@ -75,12 +75,15 @@ pub fn run(
             f.cell, f.pattern, f.keep, count, width, height, mode, weights, offsets, ids, noise,
             words, domains, counts, pending, floats, marks,
         ) {
-            return Ok(inner::contradict(domains, counts, pending, floats, marks));
+            return Ok(inner::conclude(
+                true, count, width, height, mode, weights, offsets, ids, noise, words, domains,
+                counts, pending, floats, marks,
+            ));
         }
         i += 1;
     }
     Ok(inner::conclude(
-        count, width, height, mode, weights, offsets, ids, noise, words, domains, counts, pending,
-        floats, marks,
+        false, count, width, height, mode, weights, offsets, ids, noise, words, domains, counts,
+        pending, floats, marks,
     ))
 }

@@ -10,7 +10,7 @@ ghost use Rattle.run.specs.Answers.{answer_told};
 ghost use Rattle.run.specs.Stages.{state_in, stage_of, standing, Standing, lay_all};
 
 use crate::Stop;
-use crate::inner::{begin, conclude, contradict, lay_one};
+use crate::inner::{begin_judged, conclude, lay_one};
 use grid::Grid;
 use refusals::Refusal;
 
@@ -95,18 +95,16 @@ pub fn run_numbers(
     };
     let bad = forbids::inner::judge_all(forbids, count, grid);
     let lent = forbids::inner::records_in(forbids);
-    begin(
+    begin_judged(
         bad, lent, count, width, height, mode, weights, offsets, ids, noise, words, domains,
         counts, pending, floats, marks,
     )?;
-    if lay_numbers(
+    let empty = lay_numbers(
         forbids, count, width, height, mode, weights, offsets, ids, noise, words, domains, counts,
         pending, floats, marks,
-    ) {
-        return Ok(contradict(domains, counts, pending, floats, marks));
-    }
+    );
     Ok(conclude(
-        count, width, height, mode, weights, offsets, ids, noise, words, domains, counts, pending,
-        floats, marks,
+        empty, count, width, height, mode, weights, offsets, ids, noise, words, domains, counts,
+        pending, floats, marks,
     ))
 }

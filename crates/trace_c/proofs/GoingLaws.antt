@@ -6,19 +6,19 @@ use Prim.Native.Nat.{◌<◌}
 use native.Mathlib.Omega.{arith}
 use lib.ListN.{length}
 use Rattle.std.specs.Prelude.{Ok}
-use Rattle.refusals.specs.Refusals.{number_of, first_of}
+use Rattle.refusals.specs.Refusals.{first_of}
 use Rattle.forbids.specs.declared.Forbid.{Forbid}
 use Rattle.course.specs.Run.{Given}
 use Rattle.course.specs.Called.{Memory, room_of}
 use Rattle.forbids.specs.Forbids.{forbid_tests}
-use Rattle.run.specs.Stages.{state_in, begun_as, stage_of, Standing, beginning, lay_at}
+use Rattle.run.specs.Stages.{state_in, begun_as, begun_by, stage_of, Standing, beginning, lay_at}
 use Rattle.refusals.proofs.RefusalLaws.{number_of-accepted}
 use Rattle.run.proofs.StageLaws.{begun-standing, lay_standing}
 use Rattle.trace_c.specs.Going.{Going}
 
 -- the beginning, without forbids
-pub begun_going : (i : Given) (m m' : Memory) → begun_as i.table.count (Ok tt) m' ≡ beginning (number_of (Ok tt)) 0 i m → room_of m' ≡ room_of m → Standing i m'
-unfolding forbid_tests first_of number_of
+pub begun_going : (i : Given) (m m' : Memory) → begun_by i.table.count (Ok tt) m' ≡ beginning 0 0 i m → room_of m' ≡ room_of m → Standing i m'
+unfolding forbid_tests first_of begun_as begun_by
 begun_going i m m' e same = begun-standing i 0 [] m (Ok tt) m' e number_of-accepted same
 
 -- a forbid; b is whether it emptied a cell

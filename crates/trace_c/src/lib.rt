@@ -128,22 +128,8 @@ fn start(
     ensures { Going (given (table count offsets.now ids.now) weights.now (grid width height mode) noise.now) result (memory domains.new counts.new pending.new floats.new marks.new) }
 {
     match run::inner::begin(
-        Ok(()),
-        0,
-        count,
-        width,
-        height,
-        mode,
-        weights,
-        offsets,
-        ids,
-        noise,
-        words,
-        domains,
-        counts,
-        pending,
-        floats,
-        marks,
+        0, 0, count, width, height, mode, weights, offsets, ids, noise, words, domains, counts,
+        pending, floats, marks,
     ) {
         Ok(()) => lay_all(
             forbids, count, width, height, mode, weights, offsets, ids, noise, words, domains,

@@ -1,19 +1,18 @@
--- `run::inner::begin` meets its contract: the first refusal in order, with all as it was, or the start.
+-- `run::inner::begin` meets its contract: the first refusal in order, of which the forbids' may have any number, with all as it was, or the start.
 -- Assumes nothing.
-use mathlib.Core.List.{[]}
-use mathlib.Core.Path.{◌≡◌, refl, sym, ◌∙◌}
-use native.Mathlib.Omega.{arith}
+use mathlib.Core.Path.{◌≡◌, sym, ap, ◌∙◌}
+use Prim.Native.Nat.{ℕ}
 use Rattle.std.proofs.lemmas.Result.{err_from_is_err_and}
-use Rattle.refusals.specs.Refusals.{first_of}
+use Rattle.refusals.specs.Refusals.{number_of}
 use Rattle.adjacency.specs.Tables.{table}
 use Rattle.grid.specs.Grid.{grid}
 use Rattle.course.specs.Run.{Given, given}
-use Rattle.course.specs.Called.{Memory, memory, room_of, base_tests}
+use Rattle.course.specs.Called.{Memory, memory}
+use Rattle.run.specs.Stages.{begun_as, begun_by, beginning}
 use Rattle.refusals.proofs.RefusalLaws.{number_of-accepted}
-use Rattle.course.proofs.CalledLaws.{Granted}
-use Rattle.run.proofs.StandingLaws.{base-granted, granted-opened, begin_refused, begin_bad, begin_standing}
+use Rattle.run.proofs.StandingLaws.{begin_refused, begin_bad}
 use Rattle.run.proofs.inner.begin.Goals as goal
-use Rattle.run.proofs.inner.begin.Goals.{Start, In_ok-check}
+use Rattle.run.proofs.inner.begin.Goals.{Start}
 
 -- what the call is given, and the lent slices at entry
 abbrev input : Start → Given
@@ -22,38 +21,30 @@ input s = given (table s.args.count s.args.offsets.now s.args.ids.now) s.args.we
 abbrev entry : Start → Memory
 entry s = memory s.args.domains.now s.args.counts.now s.args.pending.now s.args.floats.now s.args.marks.now
 
--- no refusal comes before the forbids'
-first : (c : In_ok-check) → first_of (base_tests (input (goal.at.In_ok-check c).Start) c.args.lent (room_of (entry (goal.at.In_ok-check c).Start))) ≡ 0
-first c = sym c.in_ok-check.ensures ∙ number_of-accepted
-
-granted : (c : In_ok-check) → Granted c.args.lent (input (goal.at.In_ok-check c).Start) [] (entry (goal.at.In_ok-check c).Start)
-granted c = base-granted c.args.lent (input (goal.at.In_ok-check c).Start) (entry (goal.at.In_ok-check c).Start) (first c)
+-- without a refusal of the forbids the beginning is that with the number 0
+without-bad : (s : Start) → s.args.bad ≡ 0 → beginning 0 s.args.lent (input s) (entry s) ≡ beginning s.args.bad s.args.lent (input s) (entry s)
+without-bad s z = ap (λ (n : ℕ). beginning n s.args.lent (input s) (entry s)) (sym z)
 
 pub returns-in_err-check : goal.returns-in_err-check
+unfolding begun_by
 returns-in_err-check c =
+    let s = (goal.at.returns-in_err-check c).Start in
     let (_, e, same) = err_from_is_err_and c.from_residual.result c.from_residual.ensures.1 in
-    rw (e, same) (begin_refused c.args.bad c.args.lent (input (goal.at.returns-in_err-check c).Start) (entry (goal.at.returns-in_err-check c).Start) _ c.in_err-check.ensures)
+    rw (e, same) (begin_refused c.args.bad c.args.lent (input s) (entry s) _ c.in_err-check.ensures)
 
-pub returns-in_err-bad : goal.returns-in_err-bad
-returns-in_err-bad c =
-    let (_, e, same) = err_from_is_err_and c.from_residual-in_err-bad.result c.from_residual-in_err-bad.ensures.1 in
-    rw (e, same)
-    (begin_bad c.args.bad c.args.lent (input (goal.at.returns-in_err-bad c).Start) (entry (goal.at.returns-in_err-bad c).Start) (first (goal.at.returns-in_err-bad c).In_ok-check) _ c.in_err-bad.was)
+pub returns-then-bad-ne0 : goal.returns-then-bad-ne0
+unfolding begun_by
+returns-then-bad-ne0 c =
+    let s = (goal.at.returns-then-bad-ne0 c).Start in
+    begin_bad c.args.bad c.args.lent (input s) (entry s) (sym c.in_ok-check.ensures ∙ number_of-accepted) c.if-bad-ne0.true
 
-pub weighted_mask-requires : goal.weighted_mask-requires
-weighted_mask-requires c =
-    let G = granted (goal.at.weighted_mask-requires c).In_ok-check in
-    omega (arith, G.lawful.weighed.one_each, G.lawful.accepted.few)
-
-pub overflow_mul-height : goal.overflow_mul-height
-overflow_mul-height c = omega (arith, (granted (goal.at.overflow_mul-height c).In_ok-check).sized.few)
-
-pub begin_state-requires : goal.begin_state-requires
-begin_state-requires c =
-    let G = granted (goal.at.begin_state-requires c).In_ok-check in
-    record { accepted = (G.lawful.accepted, G.lawful.weighed, c.weighted_mask.ensures); opened = granted-opened G }
+pub returns-in_err-begin_judged : goal.returns-in_err-begin_judged
+unfolding begun_as begun_by number_of
+returns-in_err-begin_judged c =
+    let s = (goal.at.returns-in_err-begin_judged c).Start in
+    let (_, e, same) = err_from_is_err_and c.from_residual-in_err-begin_judged.result c.from_residual-in_err-begin_judged.ensures.1 in
+    rw (e, same) (c.in_err-begin_judged.ensures ∙ without-bad s c.if-bad-ne0.false)
 
 pub returns : goal.returns
-returns c =
-    begin_standing c.args.bad c.args.lent (input (goal.at.returns c).Start) (entry (goal.at.returns c).Start) (first (goal.at.returns c).In_ok-check) c.in_ok-bad.was _
-    (c.begin_state.ensures (grid c.args.width c.args.height c.args.mode) c.args.noise.now refl)
+unfolding begun_as begun_by number_of
+returns c = c.in_ok-begin_judged.ensures ∙ without-bad (goal.at.returns c).Start c.if-bad-ne0.false
