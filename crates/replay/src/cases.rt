@@ -7,13 +7,13 @@ use bounded::inner::memory;
 use std::io::Read;
 use stream::inner::sentences::{Reason, put_reason};
 use stream::inner::{Answer, CutOff, Noise, Words};
-use transfer::{Buffer, front, room};
+use transfer::{Buffer, room};
 
 // Says why no more is answered.
 pub(crate) fn say<T: Print>(told: &T, reason: Reason) {
     let mut page: Buffer = room(0);
     let n = put_reason(reason as usize, &mut page);
-    let _ = told.write_all(front(&page, n));
+    let _ = told.write_all(&page[..n]);
 }
 
 // A part of words, four bytes each, and how many bytes of it were sent.
@@ -42,8 +42,7 @@ fn rest<O: Print, I: Read>(
     let n = stream::inner::answer(
         size, sheet, formed, noises, &noise, many, &words, &mut bytes,
     );
-    out.write_all(front(&bytes, n))
-        .map_err(|_| Reason::Unwritten)
+    out.write_all(&bytes[..n]).map_err(|_| Reason::Unwritten)
 }
 
 // Answers the next case, and whether there was one.

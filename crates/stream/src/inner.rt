@@ -3,6 +3,7 @@ ghost use Rattle.std.specs.Prelude.{List, ◌++◌, ◌≡◌, ℕ, ◌≤◌, l
 ghost use Rattle.records.specs.Laying.{pen, laid};
 ghost use Rattle.records.specs.Numbers.{u16};
 ghost use Rattle.bounded.specs.Laid.{laid_of, Held, Front};
+ghost use Rattle.stream.specs.declared.inner.sentences.Reason.TheVariants.{CutOff};
 ghost use Rattle.stream.specs.Cases.{next_of, parts, comes_to, answer_of};
 
 use bounded::inner::{Unfit, memory};
@@ -22,6 +23,8 @@ const TOO_LARGE: usize = 65535;
 pub struct CutOff;
 
 impl From<CutOff> for Reason {
+    ghost from_gives = { λ _ reason. reason ≡ CutOff };
+
     fn from(_: CutOff) -> Reason {
         Reason::CutOff
     }
