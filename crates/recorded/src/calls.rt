@@ -40,31 +40,23 @@ pub(crate) fn lent<T>(memory: &mut [T], asked: usize) -> &mut [T] {
 // Memory for domains.
 pub(crate) type Domains = [u64; 1025];
 
-// Work memory of a run.
-#[derive(Drop)]
-pub(crate) struct Work {
-    pub(crate) counts: [u8; 262145],
-    pub(crate) pending: [u32; 65537],
-    pub(crate) floats: [f32; 2049],
-    pub(crate) marks: [u8; 2081],
-}
+// Work memory of a run. Each stands in the function that lends it: in a struct that is handed out it would be copied, half a megabyte a call.
+pub(crate) type Counts = [u8; 262145];
 
-impl Work {
-    pub(crate) fn sevens() -> Work {
-        Work {
-            counts: room(7),
-            pending: room(7),
-            floats: room(7.0),
-            marks: room(7),
-        }
-    }
-}
+pub(crate) type Pending = [u32; 65537];
+
+pub(crate) type Floats = [f32; 2049];
+
+pub(crate) type Marks = [u8; 2081];
 
 // ---- a run
 
 // The run, on parts of the memory of the lengths that the call asks for.
 fn solve(head: &Head, slices: &Slices, domains: &mut Domains) -> Result<run::Stop, Refusal> {
-    let mut work = Work::sevens();
+    let mut counts: Counts = room(7);
+    let mut pending: Pending = room(7);
+    let mut floats: Floats = room(7.0);
+    let mut marks: Marks = room(7);
     run::run_numbers(
         slices.forbids,
         head.count,
@@ -77,10 +69,10 @@ fn solve(head: &Head, slices: &Slices, domains: &mut Domains) -> Result<run::Sto
         slices.noise,
         slices.words,
         lent(domains, head.lent[0]),
-        lent(&mut work.counts, head.lent[1]),
-        lent(&mut work.pending, head.lent[2]),
-        lent(&mut work.floats, head.lent[3]),
-        lent(&mut work.marks, head.lent[4]),
+        lent(&mut counts, head.lent[1]),
+        lent(&mut pending, head.lent[2]),
+        lent(&mut floats, head.lent[3]),
+        lent(&mut marks, head.lent[4]),
     )
 }
 
@@ -141,7 +133,8 @@ fn starting(halves: &[u32]) -> Domains {
 // Propagation, told with what it leaves.
 fn propagate_told<O: Print>(out: &O, head: &Head, slices: &Slices) {
     let mut domains = starting(slices.halves);
-    let mut work = Work::sevens();
+    let mut counts: Counts = room(7);
+    let mut pending: Pending = room(7);
     let answer = starting::propagate(
         head.count,
         slices.offsets,
@@ -150,8 +143,8 @@ fn propagate_told<O: Print>(out: &O, head: &Head, slices: &Slices) {
         head.height,
         head.mode,
         lent(&mut domains, head.lent[0]),
-        lent(&mut work.counts, head.lent[1]),
-        lent(&mut work.pending, head.lent[2]),
+        lent(&mut counts, head.lent[1]),
+        lent(&mut pending, head.lent[2]),
     );
     print::refused(out, answer.err());
     print::line(out, "domains", lent(&mut domains, head.lent[0]));

@@ -1,5 +1,5 @@
 // The choices of a run. A run tells its end alone, so its steps are gone through again (`trace_c`).
-use crate::calls::{Domains, Work, lent};
+use crate::calls::{Counts, Domains, Floats, Marks, Pending, lent};
 use crate::input::{Head, Slices};
 use crate::print;
 use transfer::{front, room};
@@ -20,7 +20,10 @@ pub(crate) fn tell<O: Print>(
 ) -> usize {
     let mut places: Places = room(7);
     let mut entropies: Entropies = room(7.0);
-    let mut work = Work::sevens();
+    let mut counts: Counts = room(7);
+    let mut pending: Pending = room(7);
+    let mut floats: Floats = room(7.0);
+    let mut marks: Marks = room(7);
     let words = front(slices.words, MOST);
     let made = trace_c::murghidossu_trace(
         slices.forbids,
@@ -36,10 +39,10 @@ pub(crate) fn tell<O: Print>(
         lent(&mut places, 2 * words.len()),
         lent(&mut entropies, words.len()),
         lent(domains, head.lent[0]),
-        lent(&mut work.counts, head.lent[1]),
-        lent(&mut work.pending, head.lent[2]),
-        lent(&mut work.floats, head.lent[3]),
-        lent(&mut work.marks, head.lent[4]),
+        lent(&mut counts, head.lent[1]),
+        lent(&mut pending, head.lent[2]),
+        lent(&mut floats, head.lent[3]),
+        lent(&mut marks, head.lent[4]),
     );
     for (place, entropy) in places.chunks(2).zip(&entropies).take(made) {
         if let [cell, pattern] = place {

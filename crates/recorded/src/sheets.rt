@@ -71,35 +71,13 @@ fn tell_held<O: Print>(out: &O, held: Result<Measures, Refusal>) {
     }
 }
 
-// Memory that a sheet is read into.
-#[derive(Drop)]
-struct Room {
-    weights: Numbers,
-    offsets: Numbers,
-    ids: Bytes,
-    forbids: Numbers,
-}
-
-impl Room {
-    fn sevens() -> Room {
-        Room {
-            weights: room(7),
-            offsets: room(7),
-            ids: room(7),
-            forbids: room(7),
-        }
-    }
-}
-
-// Reading, into parts of the memory of the lengths that the call asks for.
-fn read_in(head: &Head, bytes: &[u8], memory: &mut Room) -> Result<Measures, Refusal> {
-    sheet::read(
-        bytes,
-        lent(&mut memory.weights, head.lent[0]),
-        lent(&mut memory.offsets, head.lent[1]),
-        lent(&mut memory.ids, head.lent[2]),
-        lent(&mut memory.forbids, head.lent[3]),
-    )
+// Memory that a sheet was read into; it stands in the function that lent it.
+#[derive(Clone, Copy)]
+struct Room<'a> {
+    weights: &'a Numbers,
+    offsets: &'a Numbers,
+    ids: &'a Bytes,
+    forbids: &'a Numbers,
 }
 
 // Where the entries of a sheet end in each slice.
@@ -132,37 +110,59 @@ impl Ends {
 }
 
 // The entries of a sheet that was read.
-fn tell_entries<O: Print>(out: &O, ends: Ends, memory: &Room) {
-    print::line(out, "weights", front(&memory.weights, ends.weights));
-    print::line(out, "offsets", front(&memory.offsets, ends.offsets));
-    print::line(out, "ids", front(&memory.ids, ends.ids));
-    print::line(out, "forbids", front(&memory.forbids, ends.forbids));
+fn tell_entries<O: Print>(out: &O, ends: Ends, memory: Room) {
+    let Room {
+        weights,
+        offsets,
+        ids,
+        forbids,
+    } = memory;
+    print::line(out, "weights", front(weights, ends.weights));
+    print::line(out, "offsets", front(offsets, ends.offsets));
+    print::line(out, "ids", front(ids, ends.ids));
+    print::line(out, "forbids", front(forbids, ends.forbids));
 }
 
 // How many entries past each slice's last one stayed.
-fn tell_stayed<O: Print>(out: &O, head: &Head, ends: Ends, memory: &Room) {
+fn tell_stayed<O: Print>(out: &O, head: &Head, ends: Ends, memory: Room) {
     let [weights, offsets, ids, forbids, _] = head.lent;
     print::line(
         out,
         "stayed",
         &[
-            sevens(&memory.weights, ends.weights, weights, 7),
-            sevens(&memory.offsets, ends.offsets, offsets, 7),
-            sevens(&memory.ids, ends.ids, ids, 7),
-            sevens(&memory.forbids, ends.forbids, forbids, 7),
+            sevens(memory.weights, ends.weights, weights, 7),
+            sevens(memory.offsets, ends.offsets, offsets, 7),
+            sevens(memory.ids, ends.ids, ids, 7),
+            sevens(memory.forbids, ends.forbids, forbids, 7),
         ],
     );
 }
 
-// Reading, told with what `sizes` tells of the same bytes, the entries and how many past them stayed.
+// Reading, into parts of the memory of the lengths that the call asks for; told with what `sizes` tells of the same bytes, the entries and how many past
+// them stayed.
 pub(crate) fn read_told<O: Print>(out: &O, head: &Head, bytes: &[u8]) {
     tell_held(out, sheet::sizes(bytes));
-    let mut memory = Room::sevens();
-    let held = read_in(head, bytes, &mut memory);
+    let mut weights: Numbers = room(7);
+    let mut offsets: Numbers = room(7);
+    let mut ids: Bytes = room(7);
+    let mut forbids: Numbers = room(7);
+    let held = sheet::read(
+        bytes,
+        lent(&mut weights, head.lent[0]),
+        lent(&mut offsets, head.lent[1]),
+        lent(&mut ids, head.lent[2]),
+        lent(&mut forbids, head.lent[3]),
+    );
+    let memory = Room {
+        weights: &weights,
+        offsets: &offsets,
+        ids: &ids,
+        forbids: &forbids,
+    };
     let ends = Ends::of(held);
     tell_held(out, held);
     if held.is_ok() {
-        tell_entries(out, ends, &memory);
+        tell_entries(out, ends, memory);
     }
-    tell_stayed(out, head, ends, &memory);
+    tell_stayed(out, head, ends, memory);
 }
