@@ -69,9 +69,9 @@ fn dashed(text: &[u8]) -> bool
 fn kind_of(text: &[u8]) -> Kind
     ensures { result ≡ kind_of text.now }
 {
-    if text == b"--seed".as_slice() {
+    if same(text, b"--seed") {
         Kind::Waits(Wait::Seed)
-    } else if text == b"--svg".as_slice() {
+    } else if same(text, b"--svg") {
         Kind::Waits(Wait::Picture)
     } else if dashed(text) {
         Kind::Other

@@ -2,7 +2,7 @@
 ghost use Rattle.std.specs.Prelude.{◌≡◌};
 ghost use Rattle.command.specs.Files.{names_of, seed_of, shared_name, read_too, clashes, nameless, read_nameless, any_nameless, names_fault, whole_words, noise_words};
 
-use crate::arguments::{Fault, Plan};
+use crate::arguments::{Fault, Plan, same};
 
 // Which arguments name the files.
 #[derive(Clone, Copy)]
@@ -61,7 +61,7 @@ pub fn seed_of(plan: Plan) -> Option<u32>
 fn shared(name: &[u8], other: &[u8]) -> bool
     ensures { result ≡ shared_name name.now other.now }
 {
-    !name.is_empty() && name == other
+    !name.is_empty() && same(name, other)
 }
 
 // Whether a file that is to be written has the name of one that is read.

@@ -10,13 +10,13 @@ ghost use Rattle.std.specs.Prelude.{◌≤◌, ◌<◌};
 
 use std::rt::{Env, Files};
 use std::{fs, str};
-use transfer::{Buffer, LargeBuffer, front, room};
+use transfer::{Buffer, LargeBuffer, room};
 
 // Whether an argument is this word.
 fn is_word<R: Env>(rt: &R, index: usize, word: &[u8]) -> bool {
     let mut text: Buffer = room(0);
     let n = transfer::argument(rt, index, &mut text);
-    front(&text, n) == word
+    command::arguments::same(&text[..n], word)
 }
 
 // Where the command that starts here ends: at the next `then`, or at the last argument.
@@ -46,7 +46,7 @@ fn say_word<R: Env + Print>(rt: &R, index: usize) {
     if n == 0 {
         say_all(rt, b"''");
     }
-    say_all(rt, front(&text, n));
+    say_all(rt, &text[..n]);
 }
 
 // The command, as a person types it.
@@ -61,7 +61,7 @@ fn say<R: Env + Print>(rt: &R, from: usize, end: usize) {
 fn named<R: Env + Files>(rt: &R, index: usize) -> Option<R::File> {
     let mut path: Buffer = room(0);
     let n = transfer::argument(rt, index, &mut path);
-    let text = str::from_utf8(front(&path, n)).ok()?;
+    let text = str::from_utf8(&path[..n]).ok()?;
     fs::open(rt, text).ok()
 }
 
@@ -88,7 +88,7 @@ fn show_bytes<R: Env + Files + Print>(rt: &R, index: usize) {
     };
     let mut bytes: Buffer = room(0);
     let n = transfer::read_full(&mut file, &mut bytes);
-    say_bytes(rt, front(&bytes, n));
+    say_bytes(rt, &bytes[..n]);
 }
 
 fn show_text<R: Env + Files + Print>(rt: &R, index: usize) {
@@ -97,7 +97,7 @@ fn show_text<R: Env + Files + Print>(rt: &R, index: usize) {
     };
     let mut bytes: LargeBuffer = room(0);
     let n = transfer::read_full(&mut file, &mut bytes);
-    say_all(rt, front(&bytes, n));
+    say_all(rt, &bytes[..n]);
 }
 
 // What a command does: it shows the bytes of a file, or its text, or it is one of `ocean`.

@@ -41,7 +41,7 @@ fn take<R: Env>(rt: &R, plan: Plan, index: usize) -> Plan
 {
     let mut buffer: Buffer = room(0);
     let n = transfer::argument(rt, index, &mut buffer);
-    command::arguments::step(plan, index, front(&buffer, n))
+    command::arguments::step(plan, index, &buffer[..n])
 }
 
 // What the arguments from one up to another ask for.

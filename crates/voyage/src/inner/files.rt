@@ -1,4 +1,6 @@
 // Files by the argument that names them, and what is wrong where one cannot be used.
+ghost use Rattle.std.specs.Prelude.{◌≡◌, ◌≤◌, IfOk, length, take};
+
 use command::arguments::Fault;
 use command::files::{Names, Texts};
 use command::sentences::FileFault;
@@ -6,7 +8,7 @@ use std::fs::OpenFile;
 use std::io::{ErrorKind, Read, Write};
 use std::rt::{Env, Files};
 use std::{fs, io, str};
-use transfer::{Buffer, front, room};
+use transfer::{Buffer, room};
 
 // Linux's numbers of what may be wrong with a file.
 const NO_ENTRY: i32 = 2;
@@ -16,12 +18,14 @@ const NO_ACCESS: i32 = 13;
 const IS_FOLDER: i32 = 21;
 
 // The text of an argument in a buffer; no argument has the empty one.
-pub(crate) fn name<'a, R: Env>(rt: &R, index: Option<usize>, buffer: &'a mut Buffer) -> &'a [u8] {
+pub(crate) fn name<'a, R: Env>(rt: &R, index: Option<usize>, buffer: &'a mut Buffer) -> &'a [u8]
+    ensures { length result.now ≤ 4096 }
+{
     let n = match index {
         Some(index) => transfer::argument(rt, index, buffer),
         None => 0,
     };
-    front(buffer, n)
+    &buffer[..n]
 }
 
 // What is wrong with the names of the files.
@@ -71,7 +75,10 @@ fn create<R: Env + Files>(rt: &R, index: Option<usize>) -> Result<R::File, FileF
 }
 
 // One read of a file: how many bytes it put at the start of the lent ones.
-pub(crate) fn read_once<F: Read>(file: &mut F, bytes: &mut [u8]) -> Result<usize, FileFault> {
+pub(crate) fn read_once<F: Read>(file: &mut F, bytes: &mut [u8]) -> Result<usize, FileFault>
+    ensures bound { IfOk result (λ n. n ≤ length bytes.new) }
+    ensures prefix { IfOk result (λ n. n ≡ length (take n bytes.new)) }
+{
     file.read(bytes).map_err(|error| reason(&error))
 }
 

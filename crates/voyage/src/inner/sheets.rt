@@ -34,7 +34,7 @@ fn piece<F: Read>(file: &mut F, state: Scan) -> Result<Option<Scan>, FileFault>
     if n == 0 {
         return Ok(None);
     }
-    Ok(Some(past(state, front(&bytes, n))))
+    Ok(Some(past(state, &bytes[..n])))
 }
 
 // Where the rest of a file leads, up to its end or a piece after which its bytes are known to be no sheet.
