@@ -1,6 +1,6 @@
 -- The arguments of `ocean`: --seed and a number, --svg and a file, and files in their order. Follows docs/RULES.md, "Programs".
 -- Assumes nothing.
-use Rattle.std.specs.Prelude.{Bool, cond, ◌&&◌, Option, Some, None, is_some, is_none, List, [], ◌∷◌, ◌≡◌, ℕ, zero, suc, ◌+◌, ◌-◌, ◌*◌, ◌^◌, eqb, leb, ltb, length, get_or, set, position}
+use Rattle.std.specs.Prelude.{Bool, cond, ◌&&◌, ◌||◌, Option, Some, None, is_some, List, [], ◌∷◌, ◌≡◌, ℕ, zero, suc, ◌+◌, ◌-◌, ◌*◌, ◌^◌, eqb, leb, ltb, length, get_or, set}
 use Rattle.std.specs.Cmp.Lexicographic.{pointwise}
 use Rattle.text.specs.Pages.{ascii}
 use Rattle.command.specs.declared.arguments.Fault.{Fault}
@@ -12,7 +12,7 @@ use Rattle.command.specs.declared.arguments.Wait.TheVariants as for
 use Rattle.command.specs.declared.arguments.Kind.TheVariants as kind
 
 -- the number of a fault's sentence: 1 no seed, 2 no picture's file, 3 another option, 4 too many files, 5 a sheet without noise and words, 6 a seed beside
--- them, 7 a name that two files have, 8 a sheet that is too large, 9 a name that is missing
+-- them, 7 a name that two files have, 8 a sheet that is too large, 9 a name that is missing; any other number is its own
 abbrev pub fault_number : Fault → ℕ
 fault_number wrong.NoSeed = 1
 fault_number wrong.NoPicture = 2
@@ -23,6 +23,7 @@ fault_number wrong.SeedAndNoise = 6
 fault_number wrong.Clash = 7
 fault_number wrong.TooLarge = 8
 fault_number wrong.NoName = 9
+fault_number (wrong.Other number) = number
 
 -- whether two texts are the same: as long, and the same byte for byte
 abbrev pub same_text : List ℕ → List ℕ → Bool
@@ -62,7 +63,7 @@ number_in t = cond (eqb (length t) 0) None (read_from t 0)
 
 -- before the first argument
 abbrev pub empty_plan : Plan
-empty_plan = record { seed = None; svg = None; files = None ∷ None ∷ None ∷ None ∷ []; waits = None; fault = None }
+empty_plan = record { seed = None; svg = None; files = None ∷ None ∷ None ∷ None ∷ []; count = 0; waits = None; fault = None }
 
 abbrev pub with_fault : Plan → Fault → Plan
 with_fault p fault = record p { fault = Some fault }
@@ -78,17 +79,18 @@ with_number p (Some seed) = record p { seed = Some seed; waits = None }
 abbrev pub with_seed : Plan → List ℕ → Plan
 with_seed p text = with_number p (number_in text)
 
+-- the argument that names a file: number 0 is the program's own name, and names none
+abbrev pub named : ℕ → Option ℕ
+named index = cond (eqb index 0) None (Some index)
+
 -- the picture's file, which is no option
 abbrev pub with_svg : Plan → ℕ → List ℕ → Plan
-with_svg p index text = cond (dashed text) (with_fault p wrong.NoPicture) (record p { svg = Some index; waits = None })
+with_svg p index text = cond (dashed text) (with_fault p wrong.NoPicture) (record p { svg = named index; waits = None })
 
--- a file in the first place that names none
-abbrev pub file_in : Plan → ℕ → Option ℕ → Plan
-file_in p index None = with_fault p wrong.TooManyFiles
-file_in p index (Some k) = record p { files = set p.files k (Some index) }
-
+-- a file, after those before it
 abbrev pub with_file : Plan → ℕ → Plan
-with_file p index = file_in p index (position is_none p.files)
+with_file p index =
+    cond (ltb p.count 4) (record p { files = set p.files p.count (named index); count = p.count + 1 }) (with_fault p wrong.TooManyFiles)
 
 -- an argument of a kind that no option waits for
 abbrev pub with_kind : Plan → ℕ → Kind → Plan
@@ -99,32 +101,30 @@ with_kind p index kind.Other = with_fault p wrong.NoSuchOption
 abbrev pub with_word : Plan → ℕ → List ℕ → Plan
 with_word p index text = with_kind p index (kind_of text)
 
--- an argument that an option may wait for
+-- an argument that an option may wait for; where it waits for something else the argument is taken for itself
 abbrev pub waited : Plan → ℕ → List ℕ → Option Wait → Plan
 waited p index text None = with_word p index text
 waited p index text (Some for.Seed) = with_seed p text
 waited p index text (Some for.Picture) = with_svg p index text
+waited p index text (Some (for.Other number)) = with_word p index text
 
 -- one argument more, by its number and its text; after a fault nothing more is read
 abbrev pub stepped : Plan → ℕ → List ℕ → Plan
 stepped p index text = cond (is_some p.fault) p (waited p index text p.waits)
 
--- the argument that names file number k, counted from 0
-abbrev pub file_at : Plan → ℕ → Option ℕ
-file_at p k = get_or p.files k None
-
 -- what is wrong with the files: with a seed there are at most two, and without one a sheet has noise and words beside it
 abbrev pub files_fault : Plan → Option Fault
 files_fault p =
     cond (is_some p.seed)
-    (cond (is_some (file_at p 2)) (Some wrong.SeedAndNoise) None)
-    (cond (is_some (file_at p 0) && is_none (file_at p 2)) (Some wrong.NoNoise) None)
+    (cond (ltb p.count 3) None (Some wrong.SeedAndNoise))
+    (cond (eqb p.count 1 || eqb p.count 2) (Some wrong.NoNoise) None)
 
 -- what an option that still waits lacks
 abbrev pub unmet : Plan → Option Wait → Option Fault
 unmet p None = files_fault p
 unmet p (Some for.Seed) = Some wrong.NoSeed
 unmet p (Some for.Picture) = Some wrong.NoPicture
+unmet p (Some (for.Other number)) = Some (wrong.Other number)
 
 -- after the last argument: the first fault
 abbrev pub fault_of : Plan → Option Fault

@@ -1,7 +1,7 @@
 -- The files of a command of `ocean`: which arguments name them, what is wrong with the names, how many words were read. Follows docs/RULES.md, "Programs".
 -- Assumes nothing.
-use Rattle.std.specs.Prelude.{Bool, cond, not, Option, Some, None, is_some, is_none, ◌&&◌, ◌||◌, List, ℕ, ◌/◌, ◌%◌, eqb, length}
-use Rattle.command.specs.Arguments.{same_text, file_at}
+use Rattle.std.specs.Prelude.{Bool, cond, not, Option, Some, None, is_some, is_none, ◌&&◌, ◌||◌, List, ℕ, ◌/◌, ◌%◌, eqb, length, get_or}
+use Rattle.command.specs.Arguments.{same_text}
 use Rattle.command.specs.declared.arguments.Fault.{Fault}
 use Rattle.command.specs.declared.arguments.Plan.{Plan}
 use Rattle.command.specs.declared.files.Names.{Names}
@@ -14,6 +14,10 @@ abbrev pub names : Option ℕ → Option ℕ → Option ℕ → Option ℕ → O
 names sheet noise words result picture =
     record { sheet = sheet; noise = noise; words = words; result = result; picture = picture }
 
+-- the argument that names file number k, counted from 0
+abbrev pub file_at : Plan → ℕ → Option ℕ
+file_at p k = get_or p.files k None
+
 -- with a seed the files are SHEET and RESULT, without one SHEET, NOISE, WORDS and RESULT
 abbrev pub names_of : Plan → Names
 names_of p =
@@ -23,7 +27,7 @@ names_of p =
 
 -- the seed that noise and words are made from: the one that is given, or 7 for the practice ocean; None where they are read
 abbrev pub seed_of : Plan → Option ℕ
-seed_of p = cond (is_none p.seed && is_none (file_at p 0)) (Some 7) p.seed
+seed_of p = cond (is_none p.seed && eqb p.count 0) (Some 7) p.seed
 
 -- ---- which names clash
 

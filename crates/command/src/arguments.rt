@@ -1,7 +1,7 @@
 // The arguments, one after the other: options, and files in their order.
-ghost use Rattle.std.specs.Prelude.{◌≡◌, position, is_none};
+ghost use Rattle.std.specs.Prelude.{◌≡◌};
 ghost use Rattle.command.specs.Arguments as meaning;
-ghost use Rattle.command.specs.Arguments.{fault_number, same_text, kind_of, digit_more, number_in, empty_plan, with_fault, with_wait, with_seed, with_svg, with_file, with_word, stepped, fault_of};
+ghost use Rattle.command.specs.Arguments.{fault_number, same_text, kind_of, digit_more, number_in, empty_plan, with_fault, with_wait, named, with_seed, with_svg, with_file, with_word, stepped, fault_of};
 
 // What is wrong with what is asked, in the order of its sentences.
 #[derive(Clone, Copy)]
@@ -15,13 +15,26 @@ pub enum Fault {
     Clash,
     TooLarge,
     NoName,
+    // Another, by its number.
+    Other(usize),
 }
 
 // The number of its sentence.
 pub fn fault_number(fault: Fault) -> usize
     ensures { result ≡ fault_number fault }
 {
-    fault as usize + 1
+    match fault {
+        Fault::NoSeed => 1,
+        Fault::NoPicture => 2,
+        Fault::NoSuchOption => 3,
+        Fault::TooManyFiles => 4,
+        Fault::NoNoise => 5,
+        Fault::SeedAndNoise => 6,
+        Fault::Clash => 7,
+        Fault::TooLarge => 8,
+        Fault::NoName => 9,
+        Fault::Other(number) => number,
+    }
 }
 
 // What an option wants in the argument after it.
@@ -29,6 +42,8 @@ pub fn fault_number(fault: Fault) -> usize
 pub enum Wait {
     Seed,
     Picture,
+    // Another, by its number. No option is it, so the argument is taken for itself.
+    Other(usize),
 }
 
 // What an argument is that no option waits for: a file's name, an option, or what looks like one.
@@ -43,9 +58,10 @@ enum Kind {
 #[derive(Clone, Copy)]
 pub struct Plan {
     pub seed: Option<u32>,
-    // Which argument names the picture's file, and which ones name the others, in their order.
+    // Which argument names the picture's file, and which ones name the others, in their order, and how many do.
     pub svg: Option<usize>,
     pub files: [Option<usize>; 4],
+    pub count: usize,
     // What the next argument is for, where an option waits.
     pub waits: Option<Wait>,
     // The first fault.
@@ -112,6 +128,7 @@ pub fn begin() -> Plan
         seed: None,
         svg: None,
         files: [None; 4],
+        count: 0,
         waits: None,
         fault: None,
     }
@@ -136,6 +153,13 @@ fn with_wait(plan: Plan, wait: Wait) -> Plan
     }
 }
 
+// The argument that names a file: number 0 is the program's own name, and names none.
+fn named(index: usize) -> Option<usize>
+    ensures { result ≡ named index }
+{
+    if index == 0 { None } else { Some(index) }
+}
+
 fn with_seed(plan: Plan, text: &[u8]) -> Plan
     ensures { result ≡ with_seed plan text.now }
 {
@@ -157,30 +181,26 @@ fn with_svg(plan: Plan, index: usize, text: &[u8]) -> Plan
         return with_fault(plan, Fault::NoPicture);
     }
     Plan {
-        svg: Some(index),
+        svg: named(index),
         waits: None,
         ..plan
     }
 }
 
-// The first place that names no file.
-fn free(files: &[Option<usize>; 4]) -> Option<usize>
-    ensures { result ≡ position is_none files.now }
-{
-    files.iter().position(|file| file.is_none())
-}
-
 fn with_file(plan: Plan, index: usize) -> Plan
     ensures { result ≡ with_file plan index }
 {
-    match free(&plan.files) {
-        None => with_fault(plan, Fault::TooManyFiles),
-        Some(k) => {
-            let mut files = plan.files;
-            files[k] = Some(index);
-            Plan { files, ..plan }
-        }
+    let count = plan.count;
+    if count < 4 {
+        let mut files = plan.files;
+        files[count] = named(index);
+        return Plan {
+            files,
+            count: count + 1,
+            ..plan
+        };
     }
+    with_fault(plan, Fault::TooManyFiles)
 }
 
 // An argument that no option waits for.
@@ -204,7 +224,7 @@ pub fn step(plan: Plan, index: usize, text: &[u8]) -> Plan
     match plan.waits {
         Some(Wait::Seed) => with_seed(plan, text),
         Some(Wait::Picture) => with_svg(plan, index, text),
-        None => with_word(plan, index, text),
+        Some(Wait::Other(_)) | None => with_word(plan, index, text),
     }
 }
 
@@ -212,18 +232,17 @@ pub fn step(plan: Plan, index: usize, text: &[u8]) -> Plan
 fn files_fault(plan: Plan) -> Option<Fault>
     ensures { result ≡ meaning.files_fault plan }
 {
-    let [first, _, third, _] = plan.files;
     if plan.seed.is_some() {
-        return if third.is_some() {
-            Some(Fault::SeedAndNoise)
-        } else {
+        if plan.count < 3 {
             None
-        };
+        } else {
+            Some(Fault::SeedAndNoise)
+        }
+    } else if plan.count == 1 || plan.count == 2 {
+        Some(Fault::NoNoise)
+    } else {
+        None
     }
-    if first.is_some() && third.is_none() {
-        return Some(Fault::NoNoise);
-    }
-    None
 }
 
 // After the last argument: the first fault.
@@ -236,6 +255,7 @@ pub fn fault_of(plan: Plan) -> Option<Fault>
     match plan.waits {
         Some(Wait::Seed) => Some(Fault::NoSeed),
         Some(Wait::Picture) => Some(Fault::NoPicture),
+        Some(Wait::Other(number)) => Some(Fault::Other(number)),
         None => files_fault(plan),
     }
 }

@@ -51,7 +51,7 @@ pub fn names_of(plan: Plan) -> Names
 pub fn seed_of(plan: Plan) -> Option<u32>
     ensures { result ≡ seed_of plan }
 {
-    if plan.seed.is_none() && plan.files[0].is_none() {
+    if plan.seed.is_none() && plan.count == 0 {
         return Some(7);
     }
     plan.seed
