@@ -22,6 +22,7 @@ pub(crate) fn tell<O: Print>(
     let mut entropies: Entropies = room(7.0);
     let mut work = Work::sevens();
     let words = front(slices.words, MOST);
+    let most = words.len();
     let made = trace_c::murghidossu_trace(
         slices.forbids,
         head.count,
@@ -33,8 +34,8 @@ pub(crate) fn tell<O: Print>(
         slices.ids,
         slices.noise,
         words,
-        lent(&mut places, 2 * words.len()),
-        lent(&mut entropies, words.len()),
+        &mut places[..2 * most],
+        &mut entropies[..most],
         lent(domains, head.lent[0]),
         lent(&mut work.counts, head.lent[1]),
         lent(&mut work.pending, head.lent[2]),
