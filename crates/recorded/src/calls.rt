@@ -1,4 +1,6 @@
 // Calls: a call is read, made and told. Lent memory starts full of sevens, since its old content is ignored.
+ghost use Rattle.std.specs.Prelude.{◌≡◌, min, length};
+
 use crate::choices::tell;
 use crate::input::{Head, Ids, Numbers, Slices, Stop};
 use crate::{input, print, sheets};
@@ -32,7 +34,9 @@ impl From<u32> for Call {
 }
 
 // The front of a memory, of the length that a call asks for, and at most all of it.
-pub(crate) fn lent<T>(memory: &mut [T], asked: usize) -> &mut [T] {
+pub(crate) fn lent<T>(memory: &mut [T], asked: usize) -> &mut [T]
+    ensures { length result.now ≡ min asked (length memory.old) }
+{
     let end = asked.min(memory.len());
     &mut memory[..end]
 }

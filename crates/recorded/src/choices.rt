@@ -25,6 +25,7 @@ pub(crate) fn tell<O: Print>(
     let mut floats: Floats = room(7.0);
     let mut marks: Marks = room(7);
     let words = front(slices.words, MOST);
+    let most = words.len();
     let made = trace_c::murghidossu_trace(
         slices.forbids,
         head.count,
@@ -36,8 +37,8 @@ pub(crate) fn tell<O: Print>(
         slices.ids,
         slices.noise,
         words,
-        lent(&mut places, 2 * words.len()),
-        lent(&mut entropies, words.len()),
+        &mut places[..2 * most],
+        &mut entropies[..most],
         lent(domains, head.lent[0]),
         lent(&mut counts, head.lent[1]),
         lent(&mut pending, head.lent[2]),
