@@ -42,7 +42,7 @@ pub fn fault_number(fault: Fault) -> usize
 pub enum Wait {
     Seed,
     Picture,
-    // Another, by its number. No option is it, so the argument is taken for itself.
+    // Another, by its number. No option wants it, so the argument is taken for itself.
     Other(usize),
 }
 

@@ -8,7 +8,7 @@ use lib.ListN.{length, take}
 use Rattle.std.proofs.lemmas.List.{length-take, length-take-le}
 use Rattle.recorded.proofs.choices.tell.Goals as goal
 
--- as many words are kept as choices are told
+-- no more words are kept than there are places to tell
 few : (words kept : List ℕ) → kept ≡ take 1025 words → length kept ≤ 1025
 few words kept e = rw e (omega (arith, length-take 1025 words))
 
