@@ -44,10 +44,14 @@ pub(crate) fn lent<T>(memory: &mut [T], asked: usize) -> &mut [T]
 // Memory for domains.
 pub(crate) type Domains = [u64; 1025];
 
-// Work memory of a run. Each stands in the function that lends it: in a struct that is handed out it would be copied, half a megabyte a call.
-pub(crate) type Counts = [u8; 262145];
+// Work memory of a run. Each stands in the function that lends it, and the two large ones are written there: what a function hands out is copied.
+pub(crate) const COUNTS: usize = 262145;
 
-pub(crate) type Pending = [u32; 65537];
+pub(crate) const PENDING: usize = 65537;
+
+pub(crate) type Counts = [u8; COUNTS];
+
+pub(crate) type Pending = [u32; PENDING];
 
 pub(crate) type Floats = [f32; 2049];
 
@@ -57,8 +61,8 @@ pub(crate) type Marks = [u8; 2081];
 
 // The run, on parts of the memory of the lengths that the call asks for.
 fn solve(head: &Head, slices: &Slices, domains: &mut Domains) -> Result<run::Stop, Refusal> {
-    let mut counts: Counts = room(7);
-    let mut pending: Pending = room(7);
+    let mut counts: Counts = [7; COUNTS];
+    let mut pending: Pending = [7; PENDING];
     let mut floats: Floats = room(7.0);
     let mut marks: Marks = room(7);
     run::run_numbers(
@@ -137,8 +141,8 @@ fn starting(halves: &[u32]) -> Domains {
 // Propagation, told with what it leaves.
 fn propagate_told<O: Print>(out: &O, head: &Head, slices: &Slices) {
     let mut domains = starting(slices.halves);
-    let mut counts: Counts = room(7);
-    let mut pending: Pending = room(7);
+    let mut counts: Counts = [7; COUNTS];
+    let mut pending: Pending = [7; PENDING];
     let answer = starting::propagate(
         head.count,
         slices.offsets,

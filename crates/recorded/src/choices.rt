@@ -1,5 +1,5 @@
 // The choices of a run. A run tells its end alone, so its steps are gone through again (`trace_c`).
-use crate::calls::{Counts, Domains, Floats, Marks, Pending, lent};
+use crate::calls::{COUNTS, Counts, Domains, Floats, Marks, PENDING, Pending, lent};
 use crate::input::{Head, Slices};
 use crate::print;
 use transfer::{front, room};
@@ -20,8 +20,8 @@ pub(crate) fn tell<O: Print>(
 ) -> usize {
     let mut places: Places = room(7);
     let mut entropies: Entropies = room(7.0);
-    let mut counts: Counts = room(7);
-    let mut pending: Pending = room(7);
+    let mut counts: Counts = [7; COUNTS];
+    let mut pending: Pending = [7; PENDING];
     let mut floats: Floats = room(7.0);
     let mut marks: Marks = room(7);
     let words = front(slices.words, MOST);
